@@ -1,0 +1,6 @@
+pub mod ListLemmas
+pub mod SumLemmas
+pub mod NameLemmas
+pub mod DistinctLemmas
+pub mod TallyLemmas
+pub mod HeadlineLemmas

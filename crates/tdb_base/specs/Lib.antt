@@ -1,0 +1,9 @@
+pub mod Causes
+pub mod Fakes
+pub mod Codes
+pub mod Replies
+pub mod History
+pub mod Legal
+pub mod Lines
+pub mod Agrees
+pub mod Headline

@@ -1,0 +1,20 @@
+//! The outside as traits with a written meaning, the sources and sinks in memory, replies and statuses, and the definitions of a history that all
+//! layers share.
+#![tactic(auto)]
+
+mod gate;
+mod laws;
+mod reply;
+mod sink;
+mod source;
+mod standard;
+
+pub use gate::{Gate, NoGate, TurnGate};
+pub use laws::{names_are_kept, puts_need_no_flags, replies_tell_of_lines};
+pub use reply::{Failed, NoMemory, Reply, Status};
+pub use sink::{MemSink, Sink, SureSink};
+pub use source::{MemSource, Source, SureSource};
+pub use standard::{StdSink, StdSource};
+
+#[cfg(test)]
+mod tests;
