@@ -118,7 +118,7 @@ not-full (r.Seen id) e = (id, refl)
 not-full r.FullNodes e = cc e
 not-full r.FullRoots e = cc e
 
-none-full : (replies : List Reply) (k : ℕ) (reply : Reply) → list_any is_full replies ≡ false → slice_get replies k ≡ Some reply → is_full reply ≡ false
+pub none-full : (replies : List Reply) (k : ℕ) (reply : Reply) → list_any is_full replies ≡ false → slice_get replies k ≡ Some reply → is_full reply ≡ false
 none-full [] k reply none at = cc at
 none-full (x ∷ xs) zero reply none at = let one : x ≡ reply = cc at in subst (λ (y : Reply). is_full y ≡ false) one (first (is_full x) none)
   where

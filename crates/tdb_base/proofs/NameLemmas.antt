@@ -1,10 +1,10 @@
 -- Names in legal histories: they stay, they differ, and each is given once.
 use Rattle.std.proofs.Common.{◌≡◌, ◌≢◌, ◌≤◌, ◌<◌, ◌+◌, ℕ, zero, suc, List, [], ◌∷◌, ◌++◌, length, Option, Some, None, Bool, true, false, cond, refl, sym, ap, subst, arith, ◌∙◌, append_assoc, append-nil, length-append}
-use Rattle.std.proofs.lemmas.List.Sums.{fold-append, sum_by_push}
+use Rattle.std.proofs.lemmas.List.Sums.{fold-append, fold_more, sum_by_push}
 use Rattle.std.proofs.lemmas.List.Elements.{Contains-append_right, Contains-get_or}
 use Rattle.std.proofs.lemmas.Slice.Eq.{bytes_eq-Decides}
-use Rattle.std.specs.Prelude.{◌&&◌, fold, count_by, if◌then◌else◌, is_some, Contains}
-use Rattle.tdb_base.specs.History.{Vector, Act, Put, Set, Clear, Look, Entry, History, is_fresh, names, name_of, same}
+use Rattle.std.specs.Prelude.{◌&&◌, fold, count_by, if◌then◌else◌, is_some, Contains, get_or, take}
+use Rattle.tdb_base.specs.History.{Vector, Act, Put, Set, Clear, Look, Entry, History, is_fresh, names, name_of, same, flags_of, flags_after}
 use Rattle.tdb_base.specs.Legal.{Allows, IsLegal, Extends, KeepsNames, PutsOnly}
 
 -- one entry more
@@ -179,3 +179,21 @@ legal-push count h e l allowed = record { each = λ before f after whole. by bef
 
 pub legal-nil : (count : ℕ) → IsLegal count []
 legal-nil count = record { each = λ before f after whole. (let lengths = ap length whole in absurd (omega (arith, lengths, length-append before (f ∷ after)))) }
+
+-- one entry more of a history that is read from the front
+pub name-more : (h : History) (i : ℕ) (e : Entry) (v : Vector) → i < length h → e ≡ get_or h i e → name_of (take (i + 1) h) v ≡ (if names e v then Some e.id else name_of (take i h) v)
+unfolding name_of
+name-more h i e v inside is =
+    fold_more (λ (now : Option ℕ) (e : Entry). if names e v then Some e.id else now) None h i e inside
+    ∙ ap (λ (x : Entry). if names x v then Some x.id else fold (λ (now : Option ℕ) (e : Entry). if names e v then Some e.id else now) None (take i h)) (sym is)
+
+pub flags-nil : (v : Vector) → flags_of [] v ≡ None
+unfolding flags_of
+flags-nil v = refl
+
+pub flags-more : (h : History) (i : ℕ) (e : Entry) (v : Vector) → i < length h → e ≡ get_or h i e
+    → flags_of (take (i + 1) h) v ≡ (if same e.vector v then flags_after e.act (flags_of (take i h) v) else flags_of (take i h) v)
+unfolding flags_of
+flags-more h i e v inside is =
+    let step = λ (now : Option ℕ) (e : Entry). if same e.vector v then flags_after e.act now else now in
+    fold_more step None h i e inside ∙ ap (λ (x : Entry). step (fold step None (take i h)) x) (sym is)

@@ -7,3 +7,4 @@ pub mod Legal
 pub mod Lines
 pub mod Agrees
 pub mod Headline
+pub mod Plain

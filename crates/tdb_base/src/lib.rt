@@ -4,6 +4,7 @@
 
 mod gate;
 mod laws;
+pub mod plain;
 mod reply;
 mod sink;
 mod source;

@@ -1,0 +1,56 @@
+ghost use Rattle.std.specs.Prelude.{◌≡◌, ◌≤◌, IfOk, OnOk, IfSome, IsErrOf, vec_len};
+ghost use Rattle.std.specs.Io.KnownBytes.{IsAtEnd};
+ghost use Rattle.tdb_base.specs.Causes.{Rose};
+ghost use Rattle.trace_csv.specs.Input.{ReadsWithin, limit};
+
+use std::alloc::Global;
+use tdb_base::Source;
+
+/// Why an input was not read to its end.
+#[derive(Clone, Copy, Debug, PartialEq, Eq)]
+pub enum InError {
+    /// The source failed.
+    ReadFault,
+    /// The source gave more than 67,108,864 bytes.
+    TooMuch,
+    /// Memory ran out.
+    NoMemory,
+}
+
+// The most bytes of an input.
+const LIMIT: usize = 67_108_864;
+
+// The bytes that are asked for in one read.
+const ROOM: usize = 65_536;
+
+/// Every byte that the source has left, at most 67,108,864 of them, read to its end.
+///
+/// `ReadFault` comes only where the source's count of faults rose. `TooMuch` comes exactly where the
+/// source gave more bytes than the limit, and nothing is read after that. `NoMemory` may come
+/// anywhere.
+pub fn read_all<S: Source>(alloc: Global, source: &mut S) -> Result<Vec<u8>, InError>
+    ensures bytes { IfOk result (λ v. IfSome (S.left source.old) (λ b. v.items ≡ b)) }
+    ensures end { OnOk result (IsAtEnd (S.left source.new)) }
+    ensures within { IfOk result (λ v. vec_len v ≤ limit) }
+    ensures gave { ReadsWithin (S.left source.old) (S.left source.new) result }
+    ensures later { S.faults source.old ≤ S.faults source.new }
+    ensures fault { IsErrOf result InError.ReadFault → Rose (S.faults source.old) (S.faults source.new) }
+{
+    let mut all = Vec::new(alloc);
+    let mut buffer = [0u8; ROOM];
+    for _turn in 0..LIMIT + 1 {
+        let Ok(count) = source.read(&mut buffer) else {
+            return Err(InError::ReadFault);
+        };
+        if count == 0 {
+            return Ok(all);
+        }
+        if count > LIMIT - all.len() {
+            return Err(InError::TooMuch);
+        }
+        if all.extend_from_slice(&buffer[..count]).is_err() {
+            return Err(InError::NoMemory);
+        }
+    }
+    unreachable!()
+}
