@@ -5,6 +5,9 @@ mod pairs;
 mod run;
 mod words;
 
+#[cfg(test)]
+mod tests;
+
 
 use run::run;
 use std::alloc::Global;
