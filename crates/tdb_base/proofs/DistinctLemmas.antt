@@ -1,10 +1,14 @@
 -- Vectors without repeats: each stands there once, and there are so many as classes of equal ones.
-use Rattle.std.proofs.Common.{◌≡◌, ◌≢◌, ◌≤◌, ◌<◌, ◌+◌, ℕ, zero, suc, List, [], ◌∷◌, ◌++◌, length, Option, Some, None, Bool, true, false, cond, refl, sym, ap, subst, arith, ◌∙◌}
+use Rattle.std.proofs.Common.{◌≡◌, ◌≢◌, ◌≤◌, ◌<◌, ◌+◌, ◌/◌, ◌%◌, ℕ, zero, suc, List, [], ◌∷◌, ◌++◌, length, Option, Some, None, Bool, true, false, cond, refl, sym, ap, subst, arith, ◌∙◌, length-append}
 use Rattle.std.proofs.lemmas.List.Sums.{sum_by-cons, length-filter}
-use Rattle.std.specs.Prelude.{◌&&◌, ◌==◌, map, filter, not, slice_get, count_by, sum_by, if◌then◌else◌, is_some}
+use Rattle.std.proofs.lemmas.List.Elements.{filter-append}
+use Rattle.std.proofs.lemmas.List.{take_more}
+use Rattle.std.proofs.lemmas.List.FromFn.{map-range_with_len_more}
+use Rattle.std.specs.List.{list_any, range_with_len}
+use Rattle.std.specs.Prelude.{◌&&◌, ◌||◌, ◌==◌, get_or, take, map, filter, not, slice_get, count_by, sum_by, if◌then◌else◌, is_some}
 use Rattle.tdb_base.specs.History.{Vector, Entry, History, is_fresh, names, name_of, same}
 use Rattle.tdb_base.specs.Legal.{IsLegal}
-use Rattle.tdb_base.specs.Lines.{distinct, named}
+use Rattle.tdb_base.specs.Lines.{distinct, mine, named}
 use Rattle.tdb_base.proofs.ListLemmas.{At, Cut, at-next, cut-at, filter-at}
 use Rattle.tdb_base.proofs.NameLemmas.{entry-named, gives-once, same-equal, same-refl}
 use Rattle.tdb_base.proofs.SumLemmas.{sum-by-classes, sum-ones, sum-same}
@@ -126,3 +130,69 @@ count-named count h l =
         ∙ ap (λ (t : History). count_by (λ y. same y.vector x.vector) t) is
         ∙ count-filter (λ (e : Entry). is_fresh e.act) (λ (y : Entry). same y.vector x.vector) h
         ∙ gives-once count x.vector h l ∙ rw name refl
+
+filter-tail : (x v : Vector) (c : Bool) → filter (λ w. not (same x w)) (cond c [] (v ∷ [])) ≡ cond (same x v || c) [] (v ∷ [])
+filter-tail x v true = either-true (same x v)
+  where
+    either-true : (b : Bool) → [] ≡ cond (b || true) [] (v ∷ [])
+    either-true true = refl
+    either-true false = refl
+filter-tail x v false = by (same x v)
+  where
+    by : (b : Bool) → cond (not b) (v ∷ []) [] ≡ cond (b || false) [] (v ∷ [])
+    by true = refl
+    by false = refl
+
+-- one vector more: it stands at the end, unless it was there
+pub distinct-push : (xs : List Vector) (v : Vector) → distinct (xs ++ v ∷ []) ≡ distinct xs ++ cond (list_any (λ x. same x v) xs) [] (v ∷ [])
+unfolding distinct
+distinct-push [] v = refl
+distinct-push (x ∷ xs) v =
+    ap (λ (t : List Vector). x ∷ filter (λ w. not (same x w)) t) (distinct-push xs v)
+    ∙ ap (λ (t : List Vector). x ∷ t) (filter-append (λ (w : Vector). not (same x w)) (distinct xs) (cond (list_any (λ x. same x v) xs) [] (v ∷ []))
+        ∙ ap (λ (t : List Vector). filter (λ w. not (same x w)) (distinct xs) ++ t) (filter-tail x v (list_any (λ x. same x v) xs)))
+
+map-same : (xs : List ℕ) → map (λ i. i) xs ≡ xs
+map-same [] = refl
+map-same (x ∷ xs) = ap (λ (t : List ℕ). x ∷ t) (map-same xs)
+
+range-more : (n : ℕ) → range_with_len 0 (n + 1) ≡ range_with_len 0 n ++ n ∷ []
+range-more n =
+    sym (map-same (range_with_len 0 (n + 1))) ∙ map-range_with_len_more (λ (i : ℕ). i) 0 n n (omega arith)
+    ∙ ap (λ (t : List ℕ). t ++ n ∷ []) (map-same (range_with_len 0 n))
+
+-- one line more of a worker's
+pub mine-more : (lines workers block worker : ℕ) → mine (lines + 1) workers block worker
+    ≡ mine lines workers block worker ++ (if lines / block % workers == worker then lines ∷ [] else [])
+mine-more lines workers block worker =
+    let own = λ (i : ℕ). i / block % workers == worker in
+    ap (filter own) (range-more lines) ∙ filter-append own (range_with_len 0 lines) (lines ∷ [])
+
+-- how many different vectors there are, with one more
+pub distinct-more : (xs : List Vector) (v : Vector) → length (distinct (xs ++ v ∷ [])) ≡ length (distinct xs) + (if list_any (λ x. same x v) xs then 0 else 1)
+distinct-more xs v = ap length (distinct-push xs v) ∙ by (list_any (λ (x : Vector). same x v) xs)
+  where
+    by : (b : Bool) → length (distinct xs ++ cond b [] (v ∷ [])) ≡ length (distinct xs) + (if b then 0 else 1)
+    by true = simp length-append
+    by false = simp length-append
+
+pub map-push : {A B : Type 0} (f : A → B) (xs : List A) (x : A) → map f (xs ++ x ∷ []) ≡ map f xs ++ f x ∷ []
+map-push f [] x = refl
+map-push f (y ∷ xs) x = ap (λ (t : List _). f y ∷ t) (map-push f xs x)
+
+pub any-map : {A : Type 0} (f : A → Vector) (xs : List A) (v : Vector) → list_any (λ x. same x v) (map f xs) ≡ list_any (λ x. same (f x) v) xs
+any-map f [] v = refl
+any-map f (x ∷ xs) v = ap (λ (b : Bool). same (f x) v || b) (any-map f xs v)
+
+pub distinct-nil : distinct [] ≡ []
+unfolding distinct
+distinct-nil = refl
+
+-- the same, over things that stand for vectors
+pub distinct-step : {A : Type 0} (f : A → Vector) (xs : List A) (i : ℕ) (x : A) → i < length xs → x ≡ get_or xs i x
+    → length (distinct (map f (take (i + 1) xs))) ≡ length (distinct (map f (take i xs))) + (if list_any (λ y. same (f y) (f x)) (take i xs) then 0 else 1)
+distinct-step f xs i x h is =
+    let longer : take (i + 1) xs ≡ take i xs ++ x ∷ [] = take_more xs i x h ∙ ap (λ (y : _). take i xs ++ y ∷ []) (sym is) in
+    ap (λ (t : List _). length (distinct (map f t))) longer ∙ ap (λ (t : List Vector). length (distinct t)) (map-push f (take i xs) x)
+    ∙ distinct-more (map f (take i xs)) (f x)
+    ∙ ap (λ (b : Bool). length (distinct (map f (take i xs))) + (if b then 0 else 1)) (any-map f (take i xs) (f x))

@@ -2,8 +2,10 @@
 use Rattle.std.proofs.Common.{◌≡◌, ◌≢◌, ◌≤◌, ◌<◌, ◌+◌, ℕ, zero, suc, List, [], ◌∷◌, ◌++◌, length, Option, Some, None, Bool, true, false, cond, refl, sym, ap, subst, arith, ◌∙◌, append_assoc, append-nil, length-append}
 use Rattle.std.proofs.lemmas.List.Sums.{fold-append, fold_more, sum_by_push}
 use Rattle.std.proofs.lemmas.List.Elements.{Contains-append_right, Contains-get_or}
+use Rattle.std.proofs.lemmas.List.{take_more}
+use Rattle.std.proofs.lemmas.Option.{get_or_from_slice_get, slice_get_within}
 use Rattle.std.proofs.lemmas.Slice.Eq.{bytes_eq-Decides}
-use Rattle.std.specs.Prelude.{◌&&◌, fold, count_by, if◌then◌else◌, is_some, Contains, get_or, take}
+use Rattle.std.specs.Prelude.{◌&&◌, fold, count_by, if◌then◌else◌, is_some, Contains, get_or, take, drop, slice_get}
 use Rattle.tdb_base.specs.History.{Vector, Act, Put, Set, Clear, Look, Entry, History, is_fresh, names, name_of, same, flags_of, flags_after}
 use Rattle.tdb_base.specs.Legal.{Allows, IsLegal, Extends, KeepsNames, PutsOnly}
 
@@ -197,3 +199,38 @@ unfolding flags_of
 flags-more h i e v inside is =
     let step = λ (now : Option ℕ) (e : Entry). if same e.vector v then flags_after e.act now else now in
     fold_more step None h i e inside ∙ ap (λ (x : Entry). step (fold step None (take i h)) x) (sym is)
+
+-- a history cut before the entry at a place
+pub cut-here : (h : History) (i : ℕ) (e : Entry) → slice_get h i ≡ Some e → h ≡ take i h ++ e ∷ drop (suc i) h
+cut-here [] i e at = cc at
+cut-here (x ∷ h) zero e at = let one : x ≡ e = cc at in ap (λ (y : Entry). y ∷ h) one
+cut-here (x ∷ h) (suc i) e at = ap (λ (t : History). x ∷ t) (cut-here h i e at)
+
+-- a legal history of one entry more, and one that is not legal because of an entry
+pub legal-more : (count : ℕ) (h : History) (i : ℕ) (e : Entry) → slice_get h i ≡ Some e → IsLegal count (take i h) → Allows count (take i h) e.vector e.id e.act
+    → IsLegal count (take (i + 1) h)
+legal-more count h i e at l allowed =
+    let longer : take (i + 1) h ≡ take i h ++ e ∷ [] = take_more h i e (slice_get_within h i e at) ∙ ap (λ (x : Entry). take i h ++ x ∷ []) (get_or_from_slice_get h i e e at) in
+    subst (λ (t : History). IsLegal count t) (sym longer) (legal-push count (take i h) e l allowed)
+
+pub legal-there : (count : ℕ) (h : History) (i : ℕ) (e : Entry) → slice_get h i ≡ Some e → IsLegal count h → Allows count (take i h) e.vector e.id e.act
+legal-there count h i e at l = l.each (take i h) e (drop (suc i) h) (cut-here h i e at)
+
+-- who has a name got it in an entry
+abbrev name_from : Vector → Option ℕ → History → Option ℕ
+name_from w now h = fold (λ now e. if names e w then Some e.id else now) now h
+
+source-from : (w : Vector) (id : ℕ) (h : History) (now : Option ℕ) → (now ≡ Some id → ⊥) → name_from w now h ≡ Some id
+    → (k : ℕ) × (e : Entry) × (slice_get h k ≡ Some e) × (e.vector ≡ w)
+source-from w id [] now before n = absurd (before n)
+source-from w id (e ∷ h) now before n = by (names e w) refl n (source-from w id h now before)
+  where
+    by : (b : Bool) → names e w ≡ b → name_from w (if b then Some e.id else now) h ≡ Some id
+        → (name_from w now h ≡ Some id → (k : ℕ) × (f : Entry) × (slice_get h k ≡ Some f) × (f.vector ≡ w))
+        → (k : ℕ) × (f : Entry) × (slice_get (e ∷ h) k ≡ Some f) × (f.vector ≡ w)
+    by true t n more = (zero, e, refl, (names-this e w t).1)
+    by false t n more = let rest = more n in (suc rest.0, rest.1, rest.2, rest.3)
+
+pub name-source : (h : History) (w : Vector) (id : ℕ) → name_of h w ≡ Some id → (k : ℕ) × (e : Entry) × (slice_get h k ≡ Some e) × (e.vector ≡ w)
+unfolding name_of
+name-source h w id n = source-from w id h None (λ (e : None ≡ Some id). cc e) n

@@ -1,0 +1,4 @@
+pub mod FieldBits
+pub mod Parts
+pub mod Flags
+pub mod Numbers

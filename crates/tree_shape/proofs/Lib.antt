@@ -1,0 +1,5 @@
+pub mod Places
+pub mod Trees
+pub mod Sets
+pub mod Climbs
+pub mod Passes

@@ -1,0 +1,4 @@
+pub mod Positions
+pub mod Changed
+pub mod Tree
+pub mod Laws
