@@ -9,6 +9,7 @@ mod reply;
 mod sink;
 mod source;
 mod standard;
+mod steps;
 
 pub use gate::{Gate, NoGate, TurnGate};
 pub use laws::{names_are_kept, puts_need_no_flags, replies_tell_of_lines};
@@ -16,6 +17,7 @@ pub use reply::{Failed, NoMemory, Reply, Status};
 pub use sink::{MemSink, Sink, SureSink};
 pub use source::{MemSource, Source, SureSource};
 pub use standard::{StdSink, StdSource};
+pub use steps::{Kept, Ledger, Silent, Steps};
 
 #[cfg(test)]
 mod tests;
