@@ -1,15 +1,15 @@
 -- Vectors without repeats: each stands there once, and there are so many as classes of equal ones.
-use Rattle.std.proofs.Common.{◌≡◌, ◌≢◌, ◌≤◌, ◌<◌, ◌+◌, ◌/◌, ◌%◌, ℕ, zero, suc, List, [], ◌∷◌, ◌++◌, length, Option, Some, None, Bool, true, false, cond, refl, sym, ap, subst, arith, ◌∙◌, length-append}
+use Rattle.std.proofs.Common.{◌≡◌, ◌<◌, ◌+◌, ◌/◌, ◌%◌, ℕ, zero, suc, List, [], ◌∷◌, ◌++◌, length, Some, Bool, true, false, cond, refl, sym, ap, subst, arith, ◌∙◌, length-append}
 use Rattle.std.proofs.lemmas.List.Sums.{sum_by-cons, length-filter}
 use Rattle.std.proofs.lemmas.List.Elements.{filter-append}
 use Rattle.std.proofs.lemmas.List.{take_more}
 use Rattle.std.proofs.lemmas.List.FromFn.{map-range_with_len_more}
 use Rattle.std.specs.List.{list_any, range_with_len}
-use Rattle.std.specs.Prelude.{◌&&◌, ◌||◌, ◌==◌, get_or, take, map, filter, not, slice_get, count_by, sum_by, if◌then◌else◌, is_some}
-use Rattle.tdb_base.specs.History.{Vector, Entry, History, is_fresh, names, name_of, same}
+use Rattle.std.specs.Prelude.{◌&&◌, ◌||◌, ◌==◌, get_or, take, map, filter, not, slice_get, count_by, sum_by, if◌then◌else◌}
+use Rattle.tdb_base.specs.History.{Vector, Entry, History, is_fresh, same}
 use Rattle.tdb_base.specs.Legal.{IsLegal}
 use Rattle.tdb_base.specs.Lines.{distinct, mine, named}
-use Rattle.tdb_base.proofs.ListLemmas.{At, Cut, at-next, cut-at, filter-at}
+use Rattle.tdb_base.proofs.ListLemmas.{At, at-next, cut-at, filter-at}
 use Rattle.tdb_base.proofs.NameLemmas.{entry-named, gives-once, same-equal, same-refl}
 use Rattle.tdb_base.proofs.SumLemmas.{sum-by-classes, sum-ones, sum-same}
 
@@ -107,9 +107,9 @@ distinct-sum key f xs one =
     let classes = distinct (map key xs) in
     sum-by-classes same key classes f xs (λ x h. distinct-once (map key xs) (key x) h.0 (at-map key xs x h.0 h.1))
     ∙ sum-same (λ (c : Vector). sum_by f (filter (λ y. same (key y) c) xs)) (λ (c : Vector). 1) classes
-        (λ c h. let place = distinct-at (map key xs) c h.0 h.1 in
-            let found = map-at key xs c place.0 place.1 in
-            subst (λ (c : Vector). sum_by f (filter (λ y. same (key y) c) xs) ≡ 1) found.2 (one found.0 (place.0, found.1)))
+    (λ c h. let place = distinct-at (map key xs) c h.0 h.1 in
+    let found = map-at key xs c place.0 place.1 in
+    subst (λ (c : Vector). sum_by f (filter (λ y. same (key y) c) xs) ≡ 1) found.2 (one found.0 (place.0, found.1)))
     ∙ sum-ones classes
 
 -- a legal history has so many names as fresh entries
@@ -150,7 +150,7 @@ distinct-push [] v = refl
 distinct-push (x ∷ xs) v =
     ap (λ (t : List Vector). x ∷ filter (λ w. not (same x w)) t) (distinct-push xs v)
     ∙ ap (λ (t : List Vector). x ∷ t) (filter-append (λ (w : Vector). not (same x w)) (distinct xs) (cond (list_any (λ x. same x v) xs) [] (v ∷ []))
-        ∙ ap (λ (t : List Vector). filter (λ w. not (same x w)) (distinct xs) ++ t) (filter-tail x v (list_any (λ x. same x v) xs)))
+    ∙ ap (λ (t : List Vector). filter (λ w. not (same x w)) (distinct xs) ++ t) (filter-tail x v (list_any (λ x. same x v) xs)))
 
 map-same : (xs : List ℕ) → map (λ i. i) xs ≡ xs
 map-same [] = refl

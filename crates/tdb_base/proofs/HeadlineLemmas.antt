@@ -1,21 +1,21 @@
 -- The plain sentences of the headline, from the agreement of replies with a history, over lists alone.
-use Rattle.std.proofs.Common.{◌≡◌, ◌≢◌, ◌≤◌, ◌<◌, ◌+◌, ◌/◌, ◌%◌, ℕ, zero, suc, List, [], ◌∷◌, ◌++◌, length, Option, Some, None, Bool, true, false, cond, refl, sym, ap, subst, arith, ◌∙◌}
-use Rattle.std.proofs.lemmas.List.Sums.{sum_by-cons, length-filter}
+use Rattle.std.proofs.Common.{◌≡◌, ◌<◌, ◌/◌, ◌%◌, ℕ, zero, suc, List, [], ◌∷◌, length, Option, Some, None, Bool, true, false, cond, refl, sym, ap, subst, arith, ◌∙◌}
+use Rattle.std.proofs.lemmas.List.Sums.{sum_by-cons}
 use Rattle.std.proofs.lemmas.Option.{slice_get_within}
-use Rattle.std.specs.Prelude.{◌&&◌, ◌||◌, ◌==◌, Contains, map, filter, slice_get, count_by, sum_by, option_and_then}
-use Rattle.std.specs.List.{filter_map, list_any, range_with_len, zip}
-use Rattle.tdb_base.specs.Agrees.{Agrees, entry_at, entry_of, entry_of_both}
+use Rattle.std.specs.Prelude.{◌&&◌, ◌||◌, ◌==◌, map, slice_get, count_by, sum_by, option_and_then}
+use Rattle.std.specs.List.{list_any, range_with_len, zip}
+use Rattle.tdb_base.specs.Agrees.{Agrees, entry_at, entry_of}
 use Rattle.tdb_base.specs.Headline.{CountsDistinct, CountsNames, DifferentLinesDifferentIds, EachNewOnce, EqualLinesEqualIds, id_at}
-use Rattle.tdb_base.specs.History.{Vector, Act, Put, Entry, History, calls, is_fresh, name_of, names, same}
-use Rattle.tdb_base.specs.Lines.{mine, named, distinct}
+use Rattle.tdb_base.specs.History.{Vector, Put, Entry, History, calls, name_of, same}
+use Rattle.tdb_base.specs.Lines.{mine, distinct}
 use Rattle.tdb_base.specs.Replies.{id_of, is_full, is_new}
 use Rattle.tdb_base.specs.declared.reply.Reply.{Reply}
 use Rattle.tdb_base.specs.declared.reply.Reply.TheVariants as r
 use Rattle.tdb_base.proofs.DistinctLemmas.{count-filter, count-named, count-same, distinct-sum}
 use Rattle.tdb_base.proofs.ListLemmas.{At, at-contained, at-filter, at-filter_map, at-range, at-within, cut-at, filter-at}
 use Rattle.tdb_base.proofs.NameLemmas.{entry-named, gives-once, names-differ}
-use Rattle.tdb_base.proofs.SumLemmas.{sum-same, weight_of}
-use Rattle.tdb_base.proofs.TallyLemmas.{entry_weight, line_weight, tally, zip-at}
+use Rattle.tdb_base.proofs.SumLemmas.{sum-same}
+use Rattle.tdb_base.proofs.TallyLemmas.{line_weight, tally, zip-at}
 
 -- a reply that gives an identifier tells of an entry for its line
 pub record Tells (caller : ℕ) (v : Vector) (reply : Reply) (id : ℕ) : Type 0 where
@@ -74,8 +74,8 @@ different-lines count trace replies workers block earlier h callers agrees some 
     let first = replied replies i a id-i in
     let second = replied replies k a id-k in
     names-differ count h agrees.legal v w a
-        (line-named count trace replies workers block earlier h callers agrees some i v first.0 a at-i first.1 first.2)
-        (line-named count trace replies workers block earlier h callers agrees some k w second.0 a at-k second.1 second.2)
+    (line-named count trace replies workers block earlier h callers agrees some i v first.0 a at-i first.1 first.2)
+    (line-named count trace replies workers block earlier h callers agrees some k w second.0 a at-k second.1 second.2)
 
 -- a count over the replies is one over the lines
 pub count-replies : (p : Reply → Bool) (trace : List Vector) (replies : List Reply) → length replies ≡ length trace
@@ -141,7 +141,7 @@ new-once count trace replies workers block h callers agrees some none u at =
     let given = not-full reply.0 (none-full replies at.0 reply.0 none reply.1) in
     let name = line-named count trace replies workers block [] h callers agrees some at.0 u reply.0 given.0 at.1 reply.1 given.1 in
     sym (sum-same (line_weight (λ v fresh. cond (fresh && same v u) 1 0)) (λ (line : Vector × Reply). cond (is_new line.1 && same line.0 u) 1 0) (zip trace replies)
-        (λ line k. this-weight u line.0 line.1))
+    (λ line k. this-weight u line.0 line.1))
     ∙ sym (tally count trace replies workers block h callers (λ v fresh. cond (fresh && same v u) 1 0) agrees some)
     ∙ gives-once count u h agrees.legal ∙ rw name refl
 
@@ -167,9 +167,9 @@ counts-distinct count trace replies workers block h callers agrees some none =
     let lines = zip trace replies in
     sym (count-replies is_new trace replies agrees.one_each)
     ∙ distinct-sum (λ (line : Vector × Reply). line.0) (λ (line : Vector × Reply). cond (is_new line.1) 1 0) lines
-        (λ x at. let both = zip-at trace replies x at.0 at.1 in
-            count-filter (λ (line : Vector × Reply). same line.0 x.0) (λ (line : Vector × Reply). is_new line.1) lines
-            ∙ count-same (λ (line : Vector × Reply). same line.0 x.0 && is_new line.1) (λ (line : Vector × Reply). is_new line.1 && same line.0 x.0) lines
-                (λ line. and-swapped (same line.0 x.0) (is_new line.1))
-            ∙ new-once count trace replies workers block h callers agrees some none x.0 (at.0, both.0))
+    (λ x at. let both = zip-at trace replies x at.0 at.1 in
+    count-filter (λ (line : Vector × Reply). same line.0 x.0) (λ (line : Vector × Reply). is_new line.1) lines
+    ∙ count-same (λ (line : Vector × Reply). same line.0 x.0 && is_new line.1) (λ (line : Vector × Reply). is_new line.1 && same line.0 x.0) lines
+    (λ line. and-swapped (same line.0 x.0) (is_new line.1))
+    ∙ new-once count trace replies workers block h callers agrees some none x.0 (at.0, both.0))
     ∙ ap (λ (t : List Vector). length (distinct t)) (zip-firsts trace replies agrees.one_each)

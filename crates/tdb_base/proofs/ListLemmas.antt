@@ -1,7 +1,7 @@
 -- The elements of a list by their places, and the lists that filters make.
-use Rattle.std.proofs.Common.{◌≡◌, ◌≢◌, ◌≤◌, ◌<◌, ◌+◌, ℕ, zero, suc, List, [], ◌∷◌, ◌++◌, length, Option, Some, None, Bool, true, false, cond, refl, sym, ap, subst, arith, ◌∙◌}
+use Rattle.std.proofs.Common.{◌≡◌, ◌<◌, ◌+◌, ℕ, zero, suc, List, [], ◌∷◌, ◌++◌, length, Option, Some, None, Bool, true, false, cond, refl, sym, ap, subst, arith, ◌∙◌}
 use Rattle.std.proofs.lemmas.Option.{slice_get-get_or}
-use Rattle.std.specs.Prelude.{Contains, slice_get, filter, get_or, ◌==◌, map}
+use Rattle.std.specs.Prelude.{Contains, slice_get, filter}
 use Rattle.std.specs.List.{filter_map, cons_option, range_with_len}
 
 -- some place of the list holds this element

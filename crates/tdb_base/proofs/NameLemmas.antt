@@ -1,5 +1,5 @@
 -- Names in legal histories: they stay, they differ, and each is given once.
-use Rattle.std.proofs.Common.{◌≡◌, ◌≢◌, ◌≤◌, ◌<◌, ◌+◌, ℕ, zero, suc, List, [], ◌∷◌, ◌++◌, length, Option, Some, None, Bool, true, false, cond, refl, sym, ap, subst, arith, ◌∙◌, append_assoc, append-nil, length-append}
+use Rattle.std.proofs.Common.{◌≡◌, ◌≢◌, ◌<◌, ◌+◌, ℕ, zero, suc, [], ◌∷◌, ◌++◌, length, Option, Some, None, Bool, true, false, cond, refl, sym, ap, subst, arith, ◌∙◌, append_assoc, append-nil, length-append}
 use Rattle.std.proofs.lemmas.List.Sums.{fold-append, fold_more, sum_by_push}
 use Rattle.std.proofs.lemmas.List.Elements.{Contains-append_right, Contains-get_or}
 use Rattle.std.proofs.lemmas.List.{take_more}
@@ -7,7 +7,7 @@ use Rattle.std.proofs.lemmas.Option.{get_or_from_slice_get, slice_get_within}
 use Rattle.std.proofs.lemmas.Slice.Eq.{bytes_eq-Decides}
 use Rattle.std.specs.Prelude.{◌&&◌, fold, count_by, if◌then◌else◌, is_some, Contains, get_or, take, drop, slice_get}
 use Rattle.tdb_base.specs.History.{Vector, Act, Put, Set, Clear, Look, Entry, History, is_fresh, names, name_of, same, flags_of, flags_after}
-use Rattle.tdb_base.specs.Legal.{Allows, IsLegal, Extends, KeepsNames, PutsOnly}
+use Rattle.tdb_base.specs.Legal.{Allows, IsLegal, KeepsNames, PutsOnly}
 
 -- one entry more
 pub name-push : (h : History) (e : Entry) (v : Vector) → name_of (h ++ e ∷ []) v ≡ (if names e v then Some e.id else name_of h v)
@@ -85,7 +85,7 @@ entry-named count h before after e l whole =
     let regroup : h ≡ (before ++ e ∷ []) ++ after = whole ∙ sym (append_assoc before (e ∷ []) after) in
     let here : name_of (before ++ e ∷ []) e.vector ≡ Some e.id = by (is_fresh e.act) refl allowed in
     subst (λ (x : History). name_of x e.vector ≡ Some e.id) (sym regroup)
-        (name-kept count e.vector e.id (before ++ e ∷ []) after (subst (λ (x : History). IsLegal count x) regroup l) here)
+    (name-kept count e.vector e.id (before ++ e ∷ []) after (subst (λ (x : History). IsLegal count x) regroup l) here)
   where
     by : (b : Bool) → is_fresh e.act ≡ b → Allows count before e.vector e.id e.act → name_of (before ++ e ∷ []) e.vector ≡ Some e.id
     by true t a = name-push before e e.vector ∙ rw (t, same-refl e.vector) refl
@@ -145,9 +145,9 @@ put-allowed some other h v id (Look flags) fresh e a = cc e
 pub any-flags : (some other : ℕ) (h : History) → PutsOnly h → IsLegal some h → IsLegal other h
 any-flags some other h puts l = record {
   each = λ before e after whole.
-    let there : Contains h e = subst (λ (x : History). Contains x e) (sym whole) (Contains-append_right before (e ∷ after) e (Contains-get_or (e ∷ after) 0 e (omega arith))) in
-    let put = puts e there in
-    put-allowed some other before e.vector e.id e.act put.0 put.1 (l.each before e after whole);
+      let there : Contains h e = subst (λ (x : History). Contains x e) (sym whole) (Contains-append_right before (e ∷ after) e (Contains-get_or (e ∷ after) 0 e (omega arith))) in
+      let put = puts e there in
+      put-allowed some other before e.vector e.id e.act put.0 put.1 (l.each before e after whole);
 }
 
 -- a history with one entry more, cut before some entry: that is the last one, or the cut is within the history

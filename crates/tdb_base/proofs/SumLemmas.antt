@@ -1,5 +1,5 @@
 -- Sums over a list by the classes of its elements.
-use Rattle.std.proofs.Common.{◌≡◌, ◌≢◌, ◌≤◌, ◌<◌, ◌+◌, ◌*◌, ℕ, zero, suc, List, [], ◌∷◌, ◌++◌, length, Option, Some, None, Bool, true, false, cond, refl, sym, ap, subst, arith, ◌∙◌}
+use Rattle.std.proofs.Common.{◌≡◌, ◌≢◌, ◌≤◌, ◌<◌, ◌+◌, ◌*◌, ℕ, zero, suc, List, [], ◌∷◌, length, Option, Some, None, Bool, true, false, cond, refl, sym, ap, arith, ◌∙◌}
 use Rattle.std.proofs.lemmas.List.Sums.{sum_by-cons}
 use Rattle.std.specs.Prelude.{slice_get, filter, ◌==◌, sum_by, count_by}
 use Rattle.std.specs.List.{filter_map, cons_option, range_with_len}
@@ -63,9 +63,9 @@ sum-by-classes same key classes f (x ∷ xs) once =
     let one : sum_by (λ c. cond (same (key x) c) (f x) 0) classes ≡ f x = here ∙ ap (λ (n : ℕ). f x * n) (once x (zero, refl)) ∙ omega arith in
     let rest = sum-by-classes same key classes f xs (λ y k. once y (suc k.0, k.1)) in
     let split : sum_by (λ c. sum_by f (filter (λ x. same (key x) c) (x ∷ xs))) classes
-            ≡ sum_by (λ c. cond (same (key x) c) (f x) 0 + sum_by f (filter (λ x. same (key x) c) xs)) classes =
-        sum-same (λ (c : _). sum_by f (filter (λ x. same (key x) c) (x ∷ xs))) (λ (c : _). cond (same (key x) c) (f x) 0 + sum_by f (filter (λ x. same (key x) c) xs)) classes
-            (λ c k. sum-filter-cons f (λ (y : _). same (key y) c) x xs) in
+    ≡ sum_by (λ c. cond (same (key x) c) (f x) 0 + sum_by f (filter (λ x. same (key x) c) xs)) classes =
+    sum-same (λ (c : _). sum_by f (filter (λ x. same (key x) c) (x ∷ xs))) (λ (c : _). cond (same (key x) c) (f x) 0 + sum_by f (filter (λ x. same (key x) c) xs)) classes
+    (λ c k. sum-filter-cons f (λ (y : _). same (key y) c) x xs) in
     let both = sum-both (λ (c : _). cond (same (key x) c) (f x) 0) (λ (c : _). sum_by f (filter (λ x. same (key x) c) xs)) classes in
     let first = sum_by-cons f x xs in
     omega (arith, first, rest, split, both, one)

@@ -1,15 +1,15 @@
 -- Whatever is counted over the lines of a trace and their replies counts the same over the entries of a history that agrees with them.
-use Rattle.std.proofs.Common.{◌≡◌, ◌≢◌, ◌≤◌, ◌<◌, ◌+◌, ◌/◌, ◌%◌, ℕ, zero, suc, List, [], ◌∷◌, ◌++◌, length, Option, Some, None, Bool, true, false, cond, refl, sym, ap, subst, arith, ◌∙◌}
+use Rattle.std.proofs.Common.{◌≡◌, ◌≢◌, ◌<◌, ◌/◌, ◌%◌, ℕ, zero, suc, List, [], ◌∷◌, length, Option, Some, None, Bool, true, false, refl, sym, ap, arith, ◌∙◌}
 use Rattle.std.proofs.lemmas.Option.{slice_get_within, get_or_from_slice_get}
-use Rattle.std.specs.Prelude.{◌&&◌, ◌==◌, Contains, map, filter, slice_get, count_by, sum_by}
-use Rattle.std.specs.List.{filter_map, range_with_len, zip}
+use Rattle.std.specs.Prelude.{◌==◌, Contains, slice_get, count_by, sum_by}
+use Rattle.std.specs.List.{range_with_len, zip}
 use Rattle.tdb_base.specs.Agrees.{Agrees, entry_at, entry_of, entry_of_both}
-use Rattle.tdb_base.specs.History.{Vector, Act, Put, Entry, History, calls, is_fresh}
+use Rattle.tdb_base.specs.History.{Vector, Entry, History, calls, is_fresh}
 use Rattle.tdb_base.specs.Lines.{mine}
 use Rattle.tdb_base.specs.declared.reply.Reply.{Reply}
 use Rattle.tdb_base.specs.declared.reply.Reply.TheVariants as r
 use Rattle.tdb_base.proofs.DistinctLemmas.{count-cons}
-use Rattle.tdb_base.proofs.ListLemmas.{At, at-contained, at-range}
+use Rattle.tdb_base.proofs.ListLemmas.{At, at-contained}
 use Rattle.tdb_base.proofs.SumLemmas.{count-range, sum-by-classes, sum-filter_map, sum-places, sum-same, weight_of}
 
 pub contained-at : {A : Type 0} (xs : List A) (x : A) → At xs x → Contains xs x
@@ -87,22 +87,22 @@ tally count trace replies workers block h callers w agrees some =
     let place = place_weight w trace replies in
     let mine_of = λ (j : ℕ). mine (length trace) workers block j in
     let by-caller : sum_by (entry_weight w) h ≡ sum_by (λ c. sum_by (entry_weight w) (calls h c)) callers =
-        sum-by-classes (λ (a b : ℕ). a == b) (λ (e : Entry). e.caller) callers (entry_weight w) h
-            (λ e at. let known = at-contained callers e.caller (agrees.no_others h refl e (contained-at h e at)) in
-                count-single callers e.caller known.0 (λ i j a b. agrees.callers_differ i j e.caller a b) known.1) in
+    sum-by-classes (λ (a b : ℕ). a == b) (λ (e : Entry). e.caller) callers (entry_weight w) h
+    (λ e at. let known = at-contained callers e.caller (agrees.no_others h refl e (contained-at h e at)) in
+    count-single callers e.caller known.0 (λ i j a b. agrees.callers_differ i j e.caller a b) known.1) in
     let worker : (j c : ℕ) → slice_get callers j ≡ Some c → sum_by (entry_weight w) (calls h c) ≡ sum_by place (mine_of j) =
-        λ j c at. ap (λ (t : History). sum_by (entry_weight w) t) (agrees.in_order j c at)
-            ∙ sum-filter_map (entry_weight w) (entry_at c trace replies) (mine_of j)
-            ∙ sum-same (λ (i : ℕ). weight_of (entry_weight w) (entry_at c trace replies i)) place (mine_of j) (λ i k. any-caller-at w c trace replies i) in
+    λ j c at. ap (λ (t : History). sum_by (entry_weight w) t) (agrees.in_order j c at)
+    ∙ sum-filter_map (entry_weight w) (entry_at c trace replies) (mine_of j)
+    ∙ sum-same (λ (i : ℕ). weight_of (entry_weight w) (entry_at c trace replies i)) place (mine_of j) (λ i k. any-caller-at w c trace replies i) in
     let by-worker : sum_by (λ c. sum_by (entry_weight w) (calls h c)) callers ≡ sum_by (λ j. sum_by place (mine_of j)) (range_with_len 0 (length callers)) =
-        sum-places (λ (c : ℕ). sum_by (entry_weight w) (calls h c)) (λ (j : ℕ). sum_by place (mine_of j)) 0 callers
-            (λ k c at. worker k c at ∙ ap (λ (j : ℕ). sum_by place (mine_of j)) (omega arith)) in
+    sum-places (λ (c : ℕ). sum_by (entry_weight w) (calls h c)) (λ (j : ℕ). sum_by place (mine_of j)) 0 callers
+    (λ k c at. worker k c at ∙ ap (λ (j : ℕ). sum_by place (mine_of j)) (omega arith)) in
     let all-lines : sum_by place numbers ≡ sum_by (λ j. sum_by place (mine_of j)) (range_with_len 0 workers) =
-        sum-by-classes (λ (a b : ℕ). a == b) (λ (i : ℕ). i / block % workers) (range_with_len 0 workers) place numbers
-            (λ i at. count-range workers 0 (i / block % workers) (omega arith) (omega arith)) in
+    sum-by-classes (λ (a b : ℕ). a == b) (λ (i : ℕ). i / block % workers) (range_with_len 0 workers) place numbers
+    (λ i at. count-range workers 0 (i / block % workers) (omega arith) (omega arith)) in
     let lines : sum_by (line_weight w) (zip trace replies) ≡ sum_by place (range_with_len 0 (length (zip trace replies))) =
-        sum-places (line_weight w) place 0 (zip trace replies)
-            (λ k line at. let both = zip-at trace replies line k at in
-                place-weight w trace replies k line.0 line.1 both.0 both.1 ∙ ap place (omega arith)) in
+    sum-places (line_weight w) place 0 (zip trace replies)
+    (λ k line at. let both = zip-at trace replies line k at in
+    place-weight w trace replies k line.0 line.1 both.0 both.1 ∙ ap place (omega arith)) in
     by-caller ∙ by-worker ∙ ap (λ (n : ℕ). sum_by (λ j. sum_by place (mine_of j)) (range_with_len 0 n)) agrees.callers_count
     ∙ sym all-lines ∙ ap (λ (n : ℕ). sum_by place (range_with_len 0 n)) (sym (length-zip trace replies agrees.one_each)) ∙ sym lines

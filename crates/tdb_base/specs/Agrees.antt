@@ -1,5 +1,5 @@
 -- When the replies to a trace's lines form one history.
-use Rattle.std.specs.Prelude.{◌≡◌, ◌++◌, ℕ, Bool, true, false, List, [], Option, Some, None, Contains, length, slice_get}
+use Rattle.std.specs.Prelude.{◌≡◌, ◌++◌, ℕ, true, false, List, [], Option, Some, None, Contains, length, slice_get}
 use Rattle.std.specs.List.{filter_map}
 use Rattle.tdb_base.specs.Replies.{is_full}
 use Rattle.tdb_base.specs.History.{Vector, Put, Entry, History, name_of, calls}

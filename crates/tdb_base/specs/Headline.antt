@@ -1,8 +1,8 @@
 -- What replies that agree with a history tell a user, in plain sentences.
-use Rattle.std.specs.Prelude.{◌≡◌, ◌&&◌, ℕ, Bool, true, false, List, Option, Some, Contains, length, slice_get, count_by, option_and_then}
+use Rattle.std.specs.Prelude.{◌≡◌, ◌&&◌, ℕ, false, List, Option, Some, Contains, length, slice_get, count_by, option_and_then}
 use Rattle.std.specs.List.{list_any, zip}
 use Rattle.tdb_base.specs.Replies.{is_new, is_full, id_of}
-use Rattle.tdb_base.specs.History.{Vector, History, name_of, same}
+use Rattle.tdb_base.specs.History.{Vector, History, same}
 use Rattle.tdb_base.specs.Lines.{distinct, named}
 use Rattle.tdb_base.specs.declared.reply.Reply.{Reply}
 

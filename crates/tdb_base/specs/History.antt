@@ -1,5 +1,5 @@
 -- A set of vectors with flags, told as the history of the calls on it.
-use Rattle.std.specs.Prelude.{◌≡◌, ◌+◌, ◌-◌, ◌/◌, ◌%◌, ◌^◌, ◌==◌, ◌&&◌, ℕ, Bool, true, false, List, Option, Some, None, fold, filter, if◌then◌else◌, option_map}
+use Rattle.std.specs.Prelude.{◌+◌, ◌-◌, ◌/◌, ◌%◌, ◌^◌, ◌==◌, ◌&&◌, ℕ, Bool, true, false, List, Option, Some, None, fold, filter, if◌then◌else◌, option_map}
 use Rattle.std.specs.Str.{bytes_eq}
 
 -- a state: its slots, each a number

@@ -1,7 +1,7 @@
 -- The lines of a trace: without repeats, and dealt out to workers.
 use Rattle.std.specs.Prelude.{◌==◌, ◌/◌, ◌%◌, ℕ, List, [], ◌∷◌, filter, not, map}
 use Rattle.std.specs.List.{range_with_len}
-use Rattle.tdb_base.specs.History.{Vector, Entry, History, is_fresh, same}
+use Rattle.tdb_base.specs.History.{Vector, History, is_fresh, same}
 
 -- the vectors without repeats, in the order in which they first occur
 unfoldable pub distinct : List Vector → List Vector

@@ -1,5 +1,5 @@
 -- How the plain types of `plain` stand for entries.
-use Rattle.std.specs.Prelude.{◌<◌, ℕ, Bool, List, map}
+use Rattle.std.specs.Prelude.{◌<◌}
 use Rattle.tdb_base.specs.History.{Put, Set, Clear, Look}
 use Rattle.tdb_base.specs.History as h
 use Rattle.tdb_base.specs.declared.plain.Act.{Act}

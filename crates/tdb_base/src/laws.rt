@@ -10,14 +10,12 @@ ghost use Rattle.tdb_base.specs.declared.reply.Reply.{Reply};
 /// In a legal history that goes on from another, each vector keeps the identifier that it had.
 pub fn names_are_kept()
     ensures { (flag_count : ℕ) (h : History) → KeepsNames flag_count h }
-{
-}
+{}
 
 /// A history that only puts vectors is legal with any number of flags, or with none.
 pub fn puts_need_no_flags()
     ensures { (some other : ℕ) (h : History) → PutsOnly h → IsLegal some h → IsLegal other h }
-{
-}
+{}
 
 /// What replies that agree with a history from nothing tell of the lines of their trace, however these were dealt out to workers.
 pub fn replies_tell_of_lines()
@@ -31,5 +29,4 @@ pub fn replies_tell_of_lines()
         → Agrees flag_count trace replies workers block [] h callers → 0 < workers → EachNewOnce trace replies }
     ensures count_is_the_number_of_distinct_lines { (flag_count : ℕ) (trace : List Vector) (replies : List Reply) (workers block : ℕ) (h : History) (callers : List ℕ)
         → Agrees flag_count trace replies workers block [] h callers → 0 < workers → CountsDistinct trace replies }
-{
-}
+{}

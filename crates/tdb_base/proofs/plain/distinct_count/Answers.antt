@@ -1,4 +1,4 @@
-use Rattle.std.proofs.Common.{◌≡◌, ◌≤◌, ◌<◌, ◌+◌, arith, refl, sym, ap, ◌∙◌, length, ℕ, List, Bool, true, false}
+use Rattle.std.proofs.Common.{◌≡◌, ◌≤◌, ◌+◌, arith, sym, ap, ◌∙◌, length, ℕ, List, Bool, true, false}
 use Rattle.std.proofs.lemmas.List.{take_all}
 use Rattle.std.specs.Prelude.{if◌then◌else◌, map, take, Vec}
 use Rattle.std.specs.Global.{Global}
@@ -21,8 +21,8 @@ loop-i-preserved c =
     let xs = c.args.vectors.now in
     let item = c.index-vectors-i.result in
     let held : c.holds.result ≡ list_any (λ v. same v.items item.items) (take c.loop-i.i xs) =
-        c.holds.ensures ∙ ap (λ (t : List (Vec ℕ Global)). list_any (λ v. same v.items c.deref.result.now) t) c.split_at.ensures.front
-        ∙ ap (λ (u : Vector). list_any (λ (v : Vec ℕ Global). same v.items u) (take c.loop-i.i xs)) c.deref.ensures.value in
+    c.holds.ensures ∙ ap (λ (t : List (Vec ℕ Global)). list_any (λ v. same v.items c.deref.result.now) t) c.split_at.ensures.front
+    ∙ ap (λ (u : Vector). list_any (λ (v : Vec ℕ Global). same v.items u) (take c.loop-i.i xs)) c.deref.ensures.value in
     let few = at-most-one c.counted-count.result c.loop-i.count c.holds.result c.counted-count.ensures in
     record {
       same = c.counted-count.ensures

@@ -1,5 +1,5 @@
-use Rattle.std.proofs.Common.{◌≡◌, ◌<◌, ◌≤◌, ◌+◌, ◌*◌, ◌^◌, sym, ap, ◌∙◌, arith, length, subst, Option, ℕ}
-use Rattle.std.specs.Prelude.{if◌then◌else◌, Some, take, unwrap_or}
+use Rattle.std.proofs.Common.{◌<◌, sym, ap, ◌∙◌, arith, length, Option, ℕ}
+use Rattle.std.specs.Prelude.{if◌then◌else◌}
 use Rattle.std.proofs.lemmas.List.{take_all}
 use Rattle.tdb_base.specs.History as h
 use Rattle.tdb_base.proofs.NameLemmas.{flags-nil, flags-more}

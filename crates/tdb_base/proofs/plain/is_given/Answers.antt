@@ -20,14 +20,17 @@ loop-call-preserved c = λ k e before at name. by k e at name (before-or-last k 
     by k e at name (inl earlier) = c.loop-call.invariant k e earlier at name
     by k e at name (inr last) =
         let item : c.call-item.result ≡ e =
-            c.call-item.is ∙ ap (λ (i : ℕ). get_or c.args.history.now i c.call-item.result) (sym last) ∙ get_or_from_slice_get c.args.history.now k e c.call-item.result at in
+        c.call-item.is ∙ ap (λ (i : ℕ). get_or c.args.history.now i c.call-item.result) (sym last) ∙ get_or_from_slice_get c.args.history.now k e c.call-item.result at in
         let vector : c.vector.result.now ≡ e.vector = c.vector.ensures ∙ ap (λ (x : h.Entry). x.vector) item in
         cc (c.if-has_name.ensures.1 (subst (λ (v : h.Vector). h.name_of c.args.history.now v ≡ Some c.args.id) (sym vector) name))
 
 pub returns : goal.returns
-returns c = (λ t. cc t, λ given.
-    let source = name-source c.args.history.now given.0 c.args.id given.1 in
-    let here = subst (λ (v : h.Vector). h.name_of c.args.history.now v ≡ Some c.args.id) (sym source.3) given.1 in
-    let inside = slice_get_within c.args.history.now source.0 source.1 source.2 in
-    let past : length c.args.history.now ≤ c.loop-call.call-index = c.loop-call-test.false in
-    absurd (c.loop-call.invariant source.0 source.1 (omega arith) source.2 here))
+returns c = (
+  λ t. cc t,
+  λ given.
+      let source = name-source c.args.history.now given.0 c.args.id given.1 in
+      let here = subst (λ (v : h.Vector). h.name_of c.args.history.now v ≡ Some c.args.id) (sym source.3) given.1 in
+      let inside = slice_get_within c.args.history.now source.0 source.1 source.2 in
+      let past : length c.args.history.now ≤ c.loop-call.call-index = c.loop-call-test.false in
+      absurd (c.loop-call.invariant source.0 source.1 (omega arith) source.2 here),
+)

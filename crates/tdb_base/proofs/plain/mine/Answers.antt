@@ -1,6 +1,5 @@
-use Rattle.std.proofs.Common.{◌≡◌, ◌+◌, ◌/◌, ◌%◌, refl, sym, ap, ◌∙◌, ℕ, List, ◌++◌, ◌∷◌, []}
+use Rattle.std.proofs.Common.{◌/◌, ◌%◌, sym, ap, ◌∙◌, ℕ, List, ◌++◌, ◌∷◌, []}
 use Rattle.std.specs.Prelude.{if◌then◌else◌, ◌==◌}
-use Rattle.tdb_base.specs.Lines.{mine}
 use Rattle.tdb_base.proofs.DistinctLemmas.{mine-more}
 use Rattle.tdb_base.proofs.plain.mine.Goals as goal
 

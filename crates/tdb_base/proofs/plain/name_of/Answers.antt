@@ -1,5 +1,5 @@
-use Rattle.std.proofs.Common.{◌≡◌, ◌<◌, sym, ap, ◌∙◌, arith, length, subst, Option, ℕ}
-use Rattle.std.specs.Prelude.{if◌then◌else◌, Some, take}
+use Rattle.std.proofs.Common.{◌<◌, sym, ap, ◌∙◌, length, Option, ℕ}
+use Rattle.std.specs.Prelude.{if◌then◌else◌, Some}
 use Rattle.std.proofs.lemmas.List.{take_all}
 use Rattle.tdb_base.specs.History as h
 use Rattle.tdb_base.proofs.NameLemmas.{name-nil, name-more}
