@@ -1,5 +1,5 @@
 -- The replies that one worker gives to pairs in order agree with one history.
-use Rattle.std.proofs.Common.{◌≡◌, ◌≢◌, ◌<◌, ◌+◌, ◌/◌, ◌%◌, ℕ, zero, suc, List, [], ◌∷◌, ◌++◌, length, Option, Some, None, Bool, true, false, refl, sym, ap, subst, arith, ◌∙◌, length-append}
+use Rattle.std.proofs.Common.{◌≡◌, ◌+◌, ◌/◌, ◌%◌, ℕ, zero, suc, List, [], ◌∷◌, ◌++◌, length, Option, Some, None, Bool, true, false, refl, sym, ap, subst, arith, ◌∙◌, length-append}
 use Rattle.std.proofs.lemmas.List.Folds.{list_any-append}
 use Rattle.std.proofs.lemmas.Bool.Decides.{nat_tests}
 use Rattle.std.proofs.lemmas.List.{take_more}
@@ -7,7 +7,7 @@ use Rattle.std.proofs.lemmas.Option.{get_or_from_slice_get, slice_get_within}
 use Rattle.std.specs.Ordering.{is_eq, nat_cmp}
 use Rattle.std.specs.Prelude.{◌==◌, ◌||◌, All, take, cond, not, Contains, filter, slice_get, is_some, if◌then◌else◌}
 use Rattle.std.specs.List.{cons_option, filter_map, list_any, range_with_len}
-use Rattle.tdb_base.specs.Agrees.{Agrees, entry_at, entry_of, entry_of_both}
+use Rattle.tdb_base.specs.Agrees.{entry_at, entry_of, entry_of_both}
 use Rattle.tdb_base.specs.History.{Vector, Act, Put, Entry, History, calls, name_of, names}
 use Rattle.tdb_base.specs.Legal.{Allows, IsLegal}
 use Rattle.tdb_base.specs.Lines.{mine}
@@ -15,7 +15,7 @@ use Rattle.tdb_base.specs.Replies.{is_full}
 use Rattle.tdb_base.specs.declared.reply.Reply.{Reply}
 use Rattle.tdb_base.specs.declared.reply.Reply.TheVariants as r
 use Rattle.tdb_base.proofs.HeadlineLemmas.{none-full}
-use Rattle.tdb_base.proofs.ListLemmas.{At, at-contained, at-right}
+use Rattle.tdb_base.proofs.ListLemmas.{At, at-contained}
 use Rattle.tdb_base.proofs.NameLemmas.{entry-named, legal-nil, legal-push, name-nil, name-push, names-this}
 use Rattle.tdb_base.proofs.TallyLemmas.{contained-at}
 use Rattle.treedb.specs.Pairs.{Answers, IsPair}
@@ -145,11 +145,13 @@ answered-more lines replies has more v id fresh reply done pair number is-fresh 
         by : (b known-here : Bool) → has id ≡ known-here → b ≡ not known-here → Allows 7 (entries lines replies) v id (Put b)
         by true true t e = cc e
         by true false t e =
-            let none : name_of (entries lines replies) v ≡ None = none-of (name_of (entries lines replies) v) (known false t) in
-            (none, λ w n. (let other = done.pairs w id n in
-                let same : v ≡ w = packed-one v w id pair other.0 number other.1 in
-                let clash : name_of (entries lines replies) v ≡ Some id = subst (λ (x : Vector). name_of (entries lines replies) x ≡ Some id) (sym same) n in
-                cc (none, clash)))
+            let none : name_of (entries lines replies) v ≡ None = none-of (name_of (entries lines replies) v) (known false t) in (
+              none,
+              λ w n. (let other = done.pairs w id n in
+                  let same : v ≡ w = packed-one v w id pair other.0 number other.1 in
+                  let clash : name_of (entries lines replies) v ≡ Some id = subst (λ (x : Vector). name_of (entries lines replies) x ≡ Some id) (sym same) n in
+                  cc (none, clash)),
+            )
         by false true t e =
             let name = some-of (name_of (entries lines replies) v) (known true t) in
             let own = (done.pairs v name.0 name.1).1 in
@@ -221,7 +223,7 @@ all-answered lines replies has done = record {
     in-order : (j c : ℕ) → (j ≡ 0) × (c ≡ 0) → calls (entries lines replies) c ≡ filter_map (entry_at c lines replies) (mine (length lines) 1 64 j)
     in-order j c both =
         rw (both.0, both.1) (calls-all lines replies ∙ sym (ap (filter_map (entry_at 0 lines replies)) all-mine
-            ∙ entries-numbered lines replies 0 (entry_at 0 lines replies) done.count (λ k. ap (entry_at 0 lines replies) (omega arith))))
+        ∙ entries-numbered lines replies 0 (entry_at 0 lines replies) done.count (λ k. ap (entry_at 0 lines replies) (omega arith))))
 
 -- the line at a place of a trace of pairs
 pub pair-at : (trace : List Vector) (i : ℕ) (v : Vector) → All IsPair trace → slice_get trace i ≡ Some v → IsPair v

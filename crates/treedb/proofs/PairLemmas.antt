@@ -1,13 +1,13 @@
 -- Vectors of two slots, and the lines that compact mode takes.
-use Rattle.std.proofs.Common.{◌≡◌, ◌≢◌, ◌<◌, ◌+◌, ◌*◌, ◌^◌, ℕ, List, [], ◌∷◌, length, Option, Some, None, Result, Ok, Err, Bool, true, false, refl, sym, ap, subst, arith, ◌∙◌, get_or}
+use Rattle.std.proofs.Common.{◌≡◌, ◌≢◌, ◌<◌, ◌+◌, ◌*◌, ◌^◌, ℕ, List, [], ◌∷◌, length, Some, None, Result, Ok, true, false, refl, arith, get_or}
 use Rattle.std.proofs.lemmas.List.Folds.{list_all_at}
 use Rattle.std.proofs.lemmas.List.Sums.{list_all-from_AllPass}
-use Rattle.std.specs.Prelude.{All, ◌==◌, if◌then◌else◌}
+use Rattle.std.specs.Prelude.{All, ◌==◌}
 use Rattle.std.specs.List.{list_all}
 use Rattle.tdb_base.specs.History.{Vector}
 use Rattle.treedb.specs.Choice.{compact}
 use Rattle.treedb.specs.Pairs.{IsPair}
-use Rattle.treedb.specs.Run.{packed, taken_lines, takes_lines}
+use Rattle.treedb.specs.Run.{packed, taken_lines}
 
 pub pair-of : (v : Vector) → length v ≡ 2 → All (λ n. n < 2 ^ 28) v → IsPair v
 pair-of [] h small = absurd (omega arith)

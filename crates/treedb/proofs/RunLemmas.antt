@@ -3,10 +3,8 @@ use Rattle.std.proofs.Common.{◌≡◌, ◌<◌, ℕ, List, [], ◌∷◌, Opti
 use Rattle.std.specs.Prelude.{◌↔◌, ◌⊎◌, IfSome, is_some, if◌then◌else◌}
 use Rattle.std.specs.List.{list_any, range_with_len}
 use Rattle.tdb_base.specs.Headline.{CountsDistinct, CountsNames, DifferentLinesDifferentIds, EachNewOnce, EqualLinesEqualIds}
-use Rattle.tdb_base.specs.Legal.{KeepsNames}
 use Rattle.tdb_base.specs.History.{Vector}
 use Rattle.tdb_base.proofs.HeadlineLemmas.{counts-distinct, counts-names, different-lines, each-new-once, equal-lines}
-use Rattle.tdb_base.proofs.NameLemmas.{keeps-names}
 use Rattle.treedb.specs.Choice.{Choice, chosen, compact_insert}
 use Rattle.treedb.specs.Pairs.{Answers, PrintsAnswers, PrintsAnswersFront}
 use Rattle.treedb.specs.Run.{is_printed, IsOfMode, Prints, PrintsFront, Run, valid_lines}

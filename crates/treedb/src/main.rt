@@ -3,11 +3,9 @@
 
 mod pairs;
 mod run;
-mod words;
-
 #[cfg(test)]
 mod tests;
-
+mod words;
 
 use run::run;
 use std::alloc::Global;
@@ -21,7 +19,10 @@ const BUFFER: usize = 65_536;
 
 fn main(rt: HostRuntime) -> ExitCode {
     let alloc = rt.alloc();
-    let status = match (given_words(&rt, alloc), BufWriter::with_capacity(alloc, BUFFER, io::writer(&rt))) {
+    let status = match (
+        given_words(&rt, alloc),
+        BufWriter::with_capacity(alloc, BUFFER, io::writer(&rt)),
+    ) {
         (Ok(words), Ok(writer)) => run(
             &rt,
             alloc,

@@ -15,9 +15,7 @@ fn pack(line: &[u32]) -> u64
     requires { IsPair line.now }
     ensures { packed 28 line.now ≡ Some result }
 {
-    let [left, right] = line else {
-        unreachable!()
-    };
+    let [left, right] = line else { unreachable!() };
     u64::from(*left) * (1 << WIDTH) + u64::from(*right)
 }
 
@@ -34,11 +32,7 @@ fn reply_of(fresh: bool, id: u64) -> Reply
 
 /// Answers each line of a trace of pairs in order, as worker 0: a pair is new where no line before it has it, and its identifier is the pair
 /// as one number. The gate is called before and after each line.
-pub fn insert_pairs<G: Gate>(
-    alloc: Global,
-    trace: &Trace,
-    gate: &G,
-) -> Result<Vec<Reply>, NoMemory>
+pub fn insert_pairs<G: Gate>(alloc: Global, trace: &Trace, gate: &G) -> Result<Vec<Reply>, NoMemory>
     requires { All IsPair trace.now }
     ensures { IfOk result (λ replies. Answers trace.now replies.items) }
 {

@@ -44,12 +44,7 @@ fn distinct(replies: &[Reply]) -> u64
 }
 
 // Answers the lines and writes the report.
-fn report_pairs<K: Sink, G: Gate>(
-    alloc: Global,
-    trace: &Trace,
-    sink: &mut K,
-    gate: &G,
-) -> Status
+fn report_pairs<K: Sink, G: Gate>(alloc: Global, trace: &Trace, sink: &mut K, gate: &G) -> Status
     requires { All IsPair trace.now }
     ensures answer { (result ≡ Status.Done) ⊎ (result ≡ Status.WriteFault) ⊎ (result ≡ Status.NoMemory) }
     ensures done { result ≡ Status.Done → PrintsAnswers trace.now (K.taken sink.old) (K.taken sink.new) }

@@ -35,7 +35,11 @@ fn run_on<R: Threads + Wait + Sync>(
 fn answers_traces_of_pairs(rt: HostRuntime) -> Result<(), Fail> {
     let alloc = rt.alloc();
     for (input, want, text) in [
-        ("3,5\n", Status::Done, "1,805306373,new\nlines 1\ndistinct 1\n"),
+        (
+            "3,5\n",
+            Status::Done,
+            "1,805306373,new\nlines 1\ndistinct 1\n",
+        ),
         (
             "3,5\n5,3\n3,5\n",
             Status::Done,
@@ -112,7 +116,11 @@ fn tells_of_faults(rt: HostRuntime) -> Result<(), Fail> {
         let input = b"3,5\n".to_vec(alloc)?;
         let (status, sink, _notes) = run_on(&rt, alloc, &words, input, 1, 0, write)?;
         assert_eq!(rt; status, Status::WriteFault, "at write {write}");
-        assert_eq!(rt; sink.bytes(), &text[..write as usize - 1], "at write {write}");
+        assert_eq!(rt;
+            sink.bytes(),
+            &text[..write as usize - 1],
+            "at write {write}"
+        );
     }
 
     let input = vec![in alloc; b'0'; 67_108_865]?;

@@ -1,7 +1,7 @@
-use Rattle.std.proofs.Common.{◌≡◌, ◌≤◌, ◌+◌, ◌∙◌, ℕ, Bool, false, true, refl, sym, ap, subst, arith, rules, length, List}
-use Rattle.std.specs.Prelude.{◌==◌, cond, not, take, [], Vec}
+use Rattle.std.proofs.Common.{◌≤◌, ◌+◌, ◌∙◌, ℕ, Bool, false, true, refl, sym, ap, subst, rules, length, List}
+use Rattle.std.specs.Prelude.{◌==◌, cond, not, take, []}
 use Rattle.std.specs.BTreeSet.{contains}
-use Rattle.std.specs.Ordering.{is_eq, nat_cmp}
+use Rattle.std.specs.Ordering.{nat_cmp}
 use Rattle.std.proofs.lemmas.List.{take_all}
 use Rattle.tdb_base.specs.History.{Vector}
 use Rattle.tdb_base.specs.declared.reply.Reply.{Reply}
@@ -28,7 +28,7 @@ loop-i-preserved g c =
           ∙ ap (λ (b : Bool). cond (id == x) true b) (inv.set x);
       done = subst (λ (t : List Reply). Answered (take (c.loop-i.i + 1) c.args.trace.now) t (λ x. cond (id == x) true (inv.has x))) (sym c.in_ok-push.ensures.items)
           (answered-next c.args.trace.now c.loop-i.i c.loop-i.replies.items inv.has c.line.result.now id c.in_ok-fresh.fresh c.reply_of.result
-              inv.done c.requires c.line.ensures c.pack-id.ensures (c.in_ok-fresh.ensures.added ∙ ap not (inv.set id)) c.reply_of.ensures);
+          inv.done c.requires c.line.ensures c.pack-id.ensures (c.in_ok-fresh.ensures.added ∙ ap not (inv.set id)) c.reply_of.ensures);
     }
 
 pub returns : goal.returns
@@ -36,4 +36,4 @@ returns g c =
     let inv = c.loop-i.invariant in
     let past : length c.args.trace.now ≤ c.loop-i.i = subst (λ (n : ℕ). n ≤ c.loop-i.i) c.len-i-end.ensures.count c.loop-i-test.false in
     all-answered c.args.trace.now c.loop-i.replies.items inv.has
-        (subst (λ (t : List Vector). Answered t c.loop-i.replies.items inv.has) (take_all c.loop-i.i c.args.trace.now past) inv.done)
+    (subst (λ (t : List Vector). Answered t c.loop-i.replies.items inv.has) (take_all c.loop-i.i c.args.trace.now past) inv.done)

@@ -1,10 +1,10 @@
-use Rattle.std.proofs.Common.{◌≡◌, ◌∙◌, ℕ, List, Option, Some, true, map, string_bytes}
-use Rattle.std.specs.Prelude.{IfSome, is_some}
+use Rattle.std.proofs.Common.{◌≡◌, true, map, string_bytes}
+use Rattle.std.specs.Prelude.{is_some}
 use Rattle.tdb_base.specs.Headline.{CountsDistinct, CountsNames, DifferentLinesDifferentIds, EachNewOnce, EqualLinesEqualIds}
 use Rattle.tdb_base.specs.Legal.{KeepsNames}
 use Rattle.tdb_base.proofs.NameLemmas.{keeps-names}
-use Rattle.treedb.specs.Choice.{chosen, compact_insert}
-use Rattle.treedb.specs.Run.{Run, valid_lines}
+use Rattle.treedb.specs.Choice.{chosen}
+use Rattle.treedb.specs.Run.{Run}
 use Rattle.treedb.proofs.RunLemmas.{chosen-some, done-full, printed-done, prints-also, prints-run, prints-run-front, run-different, run-distinct, run-equal, run-full, run-names, run-once, told-lines}
 use Rattle.treedb.proofs.run.run.Goals as goal
 
@@ -14,7 +14,7 @@ returns-clause-front g c = λ fault.
     let taken : true ≡ is_some (chosen words) = cc (c.if-not-is_taken.false, c.is_taken.ensures) in
     let read = told-lines (g.S.Source.left c.args.source.now) c.in-Ok.bytes.items c.deref.result.now c.in-Ok-pairs_of.trace c.in-Ok.ensures.bytes c.deref.ensures.value c.in-Ok-pairs_of.ensures.lines in
     prints-run-front words (g.S.Source.left c.args.source.now) (g.K.Sink.taken c.args.sink.now) (g.K.Sink.taken c.report_pairs.new.sink) c.in-Ok-pairs_of.trace
-        (chosen-some words taken) read (c.report_pairs.ensures.front fault)
+    (chosen-some words taken) read (c.report_pairs.ensures.front fault)
 
 pub returns-clause-replies_form_one_history : goal.returns-clause-replies_form_one_history
 returns-clause-replies_form_one_history g c = λ printed.
@@ -22,54 +22,54 @@ returns-clause-replies_form_one_history g c = λ printed.
     let taken : true ≡ is_some (chosen words) = cc (c.if-not-is_taken.false, c.is_taken.ensures) in
     let read = told-lines (g.S.Source.left c.args.source.now) c.in-Ok.bytes.items c.deref.result.now c.in-Ok-pairs_of.trace c.in-Ok.ensures.bytes c.deref.ensures.value c.in-Ok-pairs_of.ensures.lines in
     prints-run words (g.S.Source.left c.args.source.now) (g.K.Sink.taken c.args.sink.now) (g.K.Sink.taken c.report_pairs.new.sink) c.in-Ok-pairs_of.trace
-        (chosen-some words taken) read (c.report_pairs.ensures.done (printed-done c.report_pairs.result c.report_pairs.ensures.answer printed))
+    (chosen-some words taken) read (c.report_pairs.ensures.done (printed-done c.report_pairs.result c.report_pairs.ensures.answer printed))
 
 pub returns-clause-full : goal.returns-clause-full
 returns-clause-full g c = λ printed.
     let words = map string_bytes c.args.words.now in
     let told = g.S.Source.left c.args.source.now in
     prints-also words told (g.K.Sink.taken c.args.sink.now) (g.K.Sink.taken c.report_pairs.new.sink) _ _
-        (λ run u. done-full c.report_pairs.result _ (printed-done c.report_pairs.result c.report_pairs.ensures.answer printed) (run-full words told run))
-        (returns-clause-replies_form_one_history g c printed)
+    (λ run u. done-full c.report_pairs.result _ (printed-done c.report_pairs.result c.report_pairs.ensures.answer printed) (run-full words told run))
+    (returns-clause-replies_form_one_history g c printed)
 
 pub returns-clause-equal_lines_have_equal_identifiers : goal.returns-clause-equal_lines_have_equal_identifiers
 returns-clause-equal_lines_have_equal_identifiers g c = λ printed.
     let words = map string_bytes c.args.words.now in
     let told = g.S.Source.left c.args.source.now in
     prints-also words told (g.K.Sink.taken c.args.sink.now) (g.K.Sink.taken c.report_pairs.new.sink) _ (λ (run : Run words told). EqualLinesEqualIds run.trace run.replies)
-        (λ run u. run-equal words told run) (returns-clause-replies_form_one_history g c printed)
+    (λ run u. run-equal words told run) (returns-clause-replies_form_one_history g c printed)
 
 pub returns-clause-different_lines_have_different_identifiers : goal.returns-clause-different_lines_have_different_identifiers
 returns-clause-different_lines_have_different_identifiers g c = λ printed.
     let words = map string_bytes c.args.words.now in
     let told = g.S.Source.left c.args.source.now in
     prints-also words told (g.K.Sink.taken c.args.sink.now) (g.K.Sink.taken c.report_pairs.new.sink) _ (λ (run : Run words told). DifferentLinesDifferentIds run.trace run.replies)
-        (λ run u. run-different words told run) (returns-clause-replies_form_one_history g c printed)
+    (λ run u. run-different words told run) (returns-clause-replies_form_one_history g c printed)
 
 pub returns-clause-printed_count_is_the_number_of_names : goal.returns-clause-printed_count_is_the_number_of_names
 returns-clause-printed_count_is_the_number_of_names g c = λ printed.
     let words = map string_bytes c.args.words.now in
     let told = g.S.Source.left c.args.source.now in
     prints-also words told (g.K.Sink.taken c.args.sink.now) (g.K.Sink.taken c.report_pairs.new.sink) _ (λ (run : Run words told). CountsNames run.replies run.history)
-        (λ run u. run-names words told run) (returns-clause-replies_form_one_history g c printed)
+    (λ run u. run-names words told run) (returns-clause-replies_form_one_history g c printed)
 
 pub returns-clause-each_distinct_line_is_new_exactly_once : goal.returns-clause-each_distinct_line_is_new_exactly_once
 returns-clause-each_distinct_line_is_new_exactly_once g c = λ printed.
     let words = map string_bytes c.args.words.now in
     let told = g.S.Source.left c.args.source.now in
     prints-also words told (g.K.Sink.taken c.args.sink.now) (g.K.Sink.taken c.report_pairs.new.sink) _ (λ (run : Run words told). EachNewOnce run.trace run.replies)
-        (λ run u. run-once words told run) (returns-clause-replies_form_one_history g c printed)
+    (λ run u. run-once words told run) (returns-clause-replies_form_one_history g c printed)
 
 pub returns-clause-printed_count_is_the_number_of_distinct_lines : goal.returns-clause-printed_count_is_the_number_of_distinct_lines
 returns-clause-printed_count_is_the_number_of_distinct_lines g c = λ printed.
     let words = map string_bytes c.args.words.now in
     let told = g.S.Source.left c.args.source.now in
     prints-also words told (g.K.Sink.taken c.args.sink.now) (g.K.Sink.taken c.report_pairs.new.sink) _ (λ (run : Run words told). CountsDistinct run.trace run.replies)
-        (λ run u. run-distinct words told run) (returns-clause-replies_form_one_history g c printed)
+    (λ run u. run-distinct words told run) (returns-clause-replies_form_one_history g c printed)
 
 pub returns-clause-names_are_kept_for_good : goal.returns-clause-names_are_kept_for_good
 returns-clause-names_are_kept_for_good g c = λ printed.
     let words = map string_bytes c.args.words.now in
     let told = g.S.Source.left c.args.source.now in
     prints-also words told (g.K.Sink.taken c.args.sink.now) (g.K.Sink.taken c.report_pairs.new.sink) _ (λ (run : Run words told). KeepsNames run.choice.flag_count run.history)
-        (λ run u. keeps-names run.choice.flag_count run.history) (returns-clause-replies_form_one_history g c printed)
+    (λ run u. keeps-names run.choice.flag_count run.history) (returns-clause-replies_form_one_history g c printed)
