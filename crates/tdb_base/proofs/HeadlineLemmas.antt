@@ -7,13 +7,14 @@ use Rattle.std.specs.List.{list_any, range_with_len, zip}
 use Rattle.tdb_base.specs.Agrees.{Agrees, entry_at, entry_of}
 use Rattle.tdb_base.specs.Headline.{CountsDistinct, CountsNames, DifferentLinesDifferentIds, EachNewOnce, EqualLinesEqualIds, id_at}
 use Rattle.tdb_base.specs.History.{Vector, Put, Entry, History, calls, name_of, same}
+use Rattle.tdb_base.specs.Legal.{PutsOnly}
 use Rattle.tdb_base.specs.Lines.{mine, distinct}
 use Rattle.tdb_base.specs.Replies.{id_of, is_full, is_new}
 use Rattle.tdb_base.specs.declared.reply.Reply.{Reply}
 use Rattle.tdb_base.specs.declared.reply.Reply.TheVariants as r
 use Rattle.tdb_base.proofs.DistinctLemmas.{count-filter, count-named, count-same, distinct-sum}
 use Rattle.tdb_base.proofs.ListLemmas.{At, at-contained, at-filter, at-filter_map, at-range, at-within, cut-at, filter-at}
-use Rattle.tdb_base.proofs.NameLemmas.{entry-named, gives-once, names-differ}
+use Rattle.tdb_base.proofs.NameLemmas.{any-flags, entry-named, gives-once, names-differ}
 use Rattle.tdb_base.proofs.SumLemmas.{sum-same}
 use Rattle.tdb_base.proofs.TallyLemmas.{line_weight, tally, zip-at}
 
@@ -173,3 +174,18 @@ counts-distinct count trace replies workers block h callers agrees some none =
     (λ line. and-swapped (same line.0 x.0) (is_new line.1))
     ∙ new-once count trace replies workers block h callers agrees some none x.0 (at.0, both.0))
     ∙ ap (λ (t : List Vector). length (distinct t)) (zip-firsts trace replies agrees.one_each)
+
+-- where no flag is set, cleared or read, replies agree whatever the number of flags is
+pub agrees-any-flags : (some other : ℕ) (trace : List Vector) (replies : List Reply) (workers block : ℕ) (earlier later : History) (callers : List ℕ) → PutsOnly later
+    → Agrees some trace replies workers block earlier later callers → Agrees other trace replies workers block earlier later callers
+agrees-any-flags some other trace replies workers block earlier later callers puts agrees = record {
+  one_each = agrees.one_each;
+  legal = any-flags some other later puts agrees.legal;
+  extends = agrees.extends;
+  callers_count = agrees.callers_count;
+  callers_differ = agrees.callers_differ;
+  callers_new = agrees.callers_new;
+  in_order = agrees.in_order;
+  full = agrees.full;
+  no_others = agrees.no_others;
+}

@@ -3,11 +3,11 @@ use Rattle.std.proofs.Common.{◌≡◌, ◌≢◌, ◌<◌, ◌+◌, ℕ, zero,
 use Rattle.std.proofs.lemmas.List.Sums.{fold-append, fold_more, sum_by_push}
 use Rattle.std.proofs.lemmas.List.Elements.{Contains-append_right, Contains-get_or}
 use Rattle.std.proofs.lemmas.List.{take_more}
-use Rattle.std.proofs.lemmas.Option.{get_or_from_slice_get, slice_get_within}
+use Rattle.std.proofs.lemmas.Option.{get_or_from_slice_get, slice_get-get_or, slice_get_within}
 use Rattle.std.proofs.lemmas.Slice.Eq.{bytes_eq-Decides}
 use Rattle.std.specs.Prelude.{◌&&◌, fold, count_by, if◌then◌else◌, is_some, Contains, get_or, take, drop, slice_get}
 use Rattle.tdb_base.specs.History.{Vector, Act, Put, Set, Clear, Look, Entry, History, is_fresh, names, name_of, same, flags_of, flags_after}
-use Rattle.tdb_base.specs.Legal.{Allows, IsLegal, KeepsNames, PutsOnly}
+use Rattle.tdb_base.specs.Legal.{Allows, IsLegal, IsNamedIn, KeepsNames, PutsOnly}
 
 -- one entry more
 pub name-push : (h : History) (e : Entry) (v : Vector) → name_of (h ++ e ∷ []) v ≡ (if names e v then Some e.id else name_of h v)
@@ -221,16 +221,45 @@ abbrev name_from : Vector → Option ℕ → History → Option ℕ
 name_from w now h = fold (λ now e. if names e w then Some e.id else now) now h
 
 source-from : (w : Vector) (id : ℕ) (h : History) (now : Option ℕ) → (now ≡ Some id → ⊥) → name_from w now h ≡ Some id
-    → (k : ℕ) × (e : Entry) × (slice_get h k ≡ Some e) × (e.vector ≡ w)
+    → (k : ℕ) × (e : Entry) × (slice_get h k ≡ Some e) × (e.vector ≡ w) × (is_fresh e.act ≡ true)
 source-from w id [] now before n = absurd (before n)
 source-from w id (e ∷ h) now before n = by (names e w) refl n (source-from w id h now before)
   where
     by : (b : Bool) → names e w ≡ b → name_from w (if b then Some e.id else now) h ≡ Some id
-        → (name_from w now h ≡ Some id → (k : ℕ) × (f : Entry) × (slice_get h k ≡ Some f) × (f.vector ≡ w))
-        → (k : ℕ) × (f : Entry) × (slice_get (e ∷ h) k ≡ Some f) × (f.vector ≡ w)
-    by true t n more = (zero, e, refl, (names-this e w t).1)
-    by false t n more = let rest = more n in (suc rest.0, rest.1, rest.2, rest.3)
+        → (name_from w now h ≡ Some id → (k : ℕ) × (f : Entry) × (slice_get h k ≡ Some f) × (f.vector ≡ w) × (is_fresh f.act ≡ true))
+        → (k : ℕ) × (f : Entry) × (slice_get (e ∷ h) k ≡ Some f) × (f.vector ≡ w) × (is_fresh f.act ≡ true)
+    by true t n more = let this = names-this e w t in (zero, e, refl, this.1, this.0)
+    by false t n more = let rest = more n in (suc rest.0, rest.1, rest.2, rest.3, rest.4)
 
-pub name-source : (h : History) (w : Vector) (id : ℕ) → name_of h w ≡ Some id → (k : ℕ) × (e : Entry) × (slice_get h k ≡ Some e) × (e.vector ≡ w)
+pub name-source : (h : History) (w : Vector) (id : ℕ) → name_of h w ≡ Some id
+    → (k : ℕ) × (e : Entry) × (slice_get h k ≡ Some e) × (e.vector ≡ w) × (is_fresh e.act ≡ true)
 unfolding name_of
 name-source h w id n = source-from w id h None (λ (e : None ≡ Some id). cc e) n
+
+fresh-put : (act : Act) → is_fresh act ≡ true → act ≡ Put true
+fresh-put (Put true) e = refl
+fresh-put (Put false) e = cc e
+fresh-put (Set bit first) e = cc e
+fresh-put (Clear bit first) e = cc e
+fresh-put (Look flags) e = cc e
+
+-- in a legal history the names are those that its entries gave
+pub name-given : (count : ℕ) (h : History) (v : Vector) (id : ℕ) → IsLegal count h → name_of h v ≡ Some id → IsNamedIn h v id
+name-given count h v id l n =
+    let source = name-source h v id n in
+    let e = source.1 in
+    let name = entry-named count h (take source.0 h) (drop (suc source.0) h) e l (cut-here h source.0 e source.2) in
+    let same-vector : name_of h v ≡ Some e.id = subst (λ (x : Vector). name_of h x ≡ Some e.id) source.3 name in
+    record {
+      entry = e;
+      there = (source.0, slice_get_within h source.0 e source.2, get_or_from_slice_get h source.0 e e source.2);
+      fresh = fresh-put e.act source.4;
+      vector = source.3;
+      named = cc (same-vector, n);
+    }
+
+pub given-name : (count : ℕ) (h : History) (v : Vector) (id : ℕ) → IsLegal count h → IsNamedIn h v id → name_of h v ≡ Some id
+given-name count h v id l given =
+    let at : slice_get h given.there.0 ≡ Some given.entry = slice_get-get_or h given.there.0 given.entry given.there.1 ∙ ap Some given.there.2 in
+    let name = entry-named count h (take given.there.0 h) (drop (suc given.there.0) h) given.entry l (cut-here h given.there.0 given.entry at) in
+    subst (λ (x : Vector). name_of h x ≡ Some id) given.vector (name ∙ ap Some given.named)

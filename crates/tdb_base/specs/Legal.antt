@@ -27,3 +27,11 @@ KeepsNames flag_count h = (later : History) → IsLegal flag_count later → Ext
 -- no entry sets, clears or reads flags
 abbrev pub PutsOnly : History → Type 0
 PutsOnly h = (e : Entry) → Contains h e → (fresh : Bool) × (e.act ≡ Put fresh)
+
+-- some entry gave the vector this name
+pub record IsNamedIn (h : History) (v : Vector) (id : ℕ) : Type 0 where
+  pub entry : Entry
+  pub there : Contains h entry
+  pub fresh : entry.act ≡ Put true
+  pub vector : entry.vector ≡ v
+  pub named : entry.id ≡ id

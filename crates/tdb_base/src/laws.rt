@@ -1,10 +1,10 @@
 //! Laws of the definitions in specs/, each the contract of a function that does nothing.
 
-ghost use Rattle.std.specs.Prelude.{◌<◌, ℕ, List, []};
+ghost use Rattle.std.specs.Prelude.{◌≡◌, ◌<◌, Some, ℕ, List, []};
 ghost use Rattle.tdb_base.specs.Agrees.{Agrees};
 ghost use Rattle.tdb_base.specs.Headline.{EqualLinesEqualIds, DifferentLinesDifferentIds, CountsNames, EachNewOnce, CountsDistinct};
-ghost use Rattle.tdb_base.specs.History.{Vector, History};
-ghost use Rattle.tdb_base.specs.Legal.{IsLegal, KeepsNames, PutsOnly};
+ghost use Rattle.tdb_base.specs.History.{Vector, History, name_of};
+ghost use Rattle.tdb_base.specs.Legal.{IsLegal, IsNamedIn, KeepsNames, PutsOnly};
 ghost use Rattle.tdb_base.specs.declared.reply.Reply.{Reply};
 
 /// In a legal history that goes on from another, each vector keeps the identifier that it had.
@@ -12,10 +12,19 @@ pub fn names_are_kept()
     ensures { (flag_count : ℕ) (h : History) → KeepsNames flag_count h }
 {}
 
-/// A history that only puts vectors is legal with any number of flags, or with none.
+/// A history that only puts vectors is legal with any number of flags, or with none, and what agrees with it does so with any number.
 pub fn puts_need_no_flags()
-    ensures { (some other : ℕ) (h : History) → PutsOnly h → IsLegal some h → IsLegal other h }
+    ensures legal { (some other : ℕ) (h : History) → PutsOnly h → IsLegal some h → IsLegal other h }
+    ensures agrees { (some other : ℕ) (trace : List Vector) (replies : List Reply) (workers block : ℕ) (earlier later : History) (callers : List ℕ) → PutsOnly later
+        → Agrees some trace replies workers block earlier later callers → Agrees other trace replies workers block earlier later callers }
 {}
+
+/// In a legal history a vector's name is the one that an entry gave it.
+pub fn names_are_given_by_entries()
+    ensures given { (flag_count : ℕ) (h : History) (v : Vector) (id : ℕ) → IsLegal flag_count h → name_of h v ≡ Some id → IsNamedIn h v id }
+    ensures named { (flag_count : ℕ) (h : History) (v : Vector) (id : ℕ) → IsLegal flag_count h → IsNamedIn h v id → name_of h v ≡ Some id }
+{
+}
 
 /// What replies that agree with a history from nothing tell of the lines of their trace, however these were dealt out to workers.
 pub fn replies_tell_of_lines()

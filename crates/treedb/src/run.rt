@@ -83,6 +83,7 @@ pub fn run<R: Threads + Wait + Sync, S: Source, K: Sink, N: Sink, G: Gate>(
     gate: &G,
 ) -> Status
     ensures usage { (result ≡ Status.Usage) ↔ (chosen (map string_bytes words.now) ≡ None) }
+    ensures unread { result ≡ Status.Usage → source.new ≡ source.old }
     ensures read_fault { result ≡ Status.ReadFault → Rose (S.faults source.old) (S.faults source.new) }
     ensures gave { GivesWithin (S.left source.old) (S.left source.new) result }
     ensures bad_trace { result ≡ Status.BadTrace → IfSome (S.left source.old) (λ bytes. valid_input (map string_bytes words.now) bytes ≡ None) }

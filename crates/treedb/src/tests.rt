@@ -5,11 +5,11 @@ use std::alloc::Global;
 use std::sync::Wait;
 use std::test::Fail;
 use std::thread::Threads;
-use tdb_base::{MemSink, MemSource, NoGate, Status};
+use tdb_base::{Gate, MemSink, MemSource, NoGate, Status, TurnGate};
 
 // A run over bytes in memory with these words after the program's name, `piece` bytes a read and a write, and this read and this write failing
 // (0: none): its status, what the sink took, and what the notes took.
-fn run_on<R: Threads + Wait + Sync>(
+fn run_on<R: Threads + Wait + Sync, G: Gate>(
     rt: &R,
     alloc: Global,
     words: &[&str],
@@ -17,6 +17,7 @@ fn run_on<R: Threads + Wait + Sync>(
     piece: usize,
     read: u64,
     write: u64,
+    gate: &G,
 ) -> Result<(Status, MemSink, MemSink), Fail>
     requires { 0 < piece }
 {
@@ -27,7 +28,7 @@ fn run_on<R: Threads + Wait + Sync>(
     let mut source = MemSource::new(input, vec![in alloc; read]?, piece);
     let mut sink = MemSink::new(alloc, 4096, vec![in alloc; write]?, piece)?;
     let mut notes = MemSink::new(alloc, 64, Vec::new(alloc), 64)?;
-    let status = run(rt, alloc, &all, &mut source, &mut sink, &mut notes, &NoGate);
+    let status = run(rt, alloc, &all, &mut source, &mut sink, &mut notes, gate);
     Ok((status, sink, notes))
 }
 
@@ -73,6 +74,7 @@ fn answers_traces_of_pairs(rt: HostRuntime) -> Result<(), Fail> {
             7,
             0,
             0,
+            &NoGate,
         )?;
         assert_eq!(rt; status, want, "{input}");
         assert_eq!(rt; sink.bytes(), text.as_bytes(), "{input}");
@@ -93,7 +95,7 @@ fn takes_no_other_words(rt: HostRuntime) -> Result<(), Fail> {
         &["bench", "--mode", "compact"],
     ] {
         let input = b"3,5\n".to_vec(alloc)?;
-        let (status, sink, _notes) = run_on(&rt, alloc, words, input, 7, 1, 1)?;
+        let (status, sink, _notes) = run_on(&rt, alloc, words, input, 7, 1, 1, &NoGate)?;
         assert_eq!(rt; status, Status::Usage);
         assert!(rt; sink.bytes().is_empty());
     }
@@ -108,13 +110,13 @@ fn tells_of_faults(rt: HostRuntime) -> Result<(), Fail> {
 
     for read in 1..4 {
         let input = b"3,5\n".to_vec(alloc)?;
-        let (status, sink, _notes) = run_on(&rt, alloc, &words, input, 2, read, 0)?;
+        let (status, sink, _notes) = run_on(&rt, alloc, &words, input, 2, read, 0, &NoGate)?;
         assert_eq!(rt; status, Status::ReadFault, "at read {read}");
         assert!(rt; sink.bytes().is_empty());
     }
     for write in 1..36 {
         let input = b"3,5\n".to_vec(alloc)?;
-        let (status, sink, _notes) = run_on(&rt, alloc, &words, input, 1, 0, write)?;
+        let (status, sink, _notes) = run_on(&rt, alloc, &words, input, 1, 0, write, &NoGate)?;
         assert_eq!(rt; status, Status::WriteFault, "at write {write}");
         assert_eq!(rt;
             sink.bytes(),
@@ -124,8 +126,26 @@ fn tells_of_faults(rt: HostRuntime) -> Result<(), Fail> {
     }
 
     let input = vec![in alloc; b'0'; 67_108_865]?;
-    let (status, sink, _notes) = run_on(&rt, alloc, &words, input, 1 << 20, 0, 0)?;
+    let (status, sink, _notes) = run_on(&rt, alloc, &words, input, 1 << 20, 0, 0, &NoGate)?;
     assert_eq!(rt; status, Status::TooMuch);
     assert!(rt; sink.bytes().is_empty());
+    Ok(())
+}
+
+#[test]
+fn calls_the_gate_round_each_line(rt: HostRuntime) -> Result<(), Fail> {
+    let alloc = rt.alloc();
+    let words = ["insert", "--mode", "compact"];
+    for (held, until, late) in [(2, 1, false), (1, 2, true), (1, 1, true), (3, 1, false)] {
+        let gate = TurnGate::new(held, until, 1000);
+        let input = b"1,2\n3,4\n".to_vec(alloc)?;
+        let (status, _sink, _notes) = run_on(&rt, alloc, &words, input, 64, 0, 0, &gate)?;
+        assert_eq!(rt; status, Status::Done);
+        assert_eq!(rt;
+            gate.timed_out(),
+            late,
+            "line {held} held until line {until}"
+        );
+    }
     Ok(())
 }
