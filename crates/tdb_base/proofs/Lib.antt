@@ -4,3 +4,4 @@ pub mod NameLemmas
 pub mod DistinctLemmas
 pub mod TallyLemmas
 pub mod HeadlineLemmas
+pub mod AgreesLemmas

@@ -1,7 +1,7 @@
 -- The elements of a list by their places, and the lists that filters make.
-use Rattle.std.proofs.Common.{◌≡◌, ◌<◌, ◌+◌, ℕ, zero, suc, List, [], ◌∷◌, ◌++◌, length, Option, Some, None, Bool, true, false, cond, refl, sym, ap, subst, arith, ◌∙◌}
+use Rattle.std.proofs.Common.{◌⊎◌, inl, inr, ◌≡◌, ◌<◌, ◌+◌, ℕ, zero, suc, List, [], ◌∷◌, ◌++◌, length, Option, Some, None, Bool, true, false, cond, refl, sym, ap, subst, arith, ◌∙◌}
 use Rattle.std.proofs.lemmas.Option.{slice_get-get_or}
-use Rattle.std.specs.Prelude.{Contains, slice_get, filter}
+use Rattle.std.specs.Prelude.{Contains, filter, nat_lt, slice_get}
 use Rattle.std.specs.List.{filter_map, cons_option, range_with_len}
 
 -- some place of the list holds this element
@@ -77,3 +77,11 @@ pub at-range : (from n k : ℕ) → k < n → slice_get (range_with_len from n) 
 at-range from zero k h = absurd (omega arith)
 at-range from (suc n) zero h = let same : from ≡ from + 0 = omega arith in ap Some same
 at-range from (suc n) (suc k) h = let same : (from + 1) + k ≡ from + suc k = omega arith in at-range (from + 1) n k (omega arith) ∙ ap Some same
+
+-- a place before the next one is the last one or before it
+pub before-or-last : (k n : ℕ) → k < n + 1 → (k < n) ⊎ (k ≡ n)
+before-or-last k n h = by (nat_lt k n) refl
+  where
+    by : (b : Bool) → nat_lt k n ≡ b → (k < n) ⊎ (k ≡ n)
+    by true e = inl (grind arith)
+    by false e = inr (grind arith)

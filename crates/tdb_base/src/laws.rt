@@ -23,8 +23,7 @@ pub fn puts_need_no_flags()
 pub fn names_are_given_by_entries()
     ensures given { (flag_count : ℕ) (h : History) (v : Vector) (id : ℕ) → IsLegal flag_count h → name_of h v ≡ Some id → IsNamedIn h v id }
     ensures named { (flag_count : ℕ) (h : History) (v : Vector) (id : ℕ) → IsLegal flag_count h → IsNamedIn h v id → name_of h v ≡ Some id }
-{
-}
+{}
 
 /// What replies that agree with a history from nothing tell of the lines of their trace, however these were dealt out to workers.
 pub fn replies_tell_of_lines()

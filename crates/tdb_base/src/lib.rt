@@ -12,7 +12,9 @@ mod standard;
 mod steps;
 
 pub use gate::{Gate, NoGate, TurnGate};
-pub use laws::{names_are_given_by_entries, names_are_kept, puts_need_no_flags, replies_tell_of_lines};
+pub use laws::{
+    names_are_given_by_entries, names_are_kept, puts_need_no_flags, replies_tell_of_lines,
+};
 pub use reply::{Failed, NoMemory, Reply, Status};
 pub use sink::{MemSink, Sink, SureSink};
 pub use source::{MemSource, Source, SureSource};

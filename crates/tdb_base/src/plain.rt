@@ -7,6 +7,10 @@ ghost use Rattle.std.specs.List.{list_any};
 ghost use Rattle.tdb_base.specs.Legal.{Allows, IsLegal};
 ghost use Rattle.tdb_base.specs.Lines.{distinct, mine};
 
+pub mod agrees;
+#[cfg(test)]
+mod tests;
+
 use std::alloc::{AllocError, Global};
 use std::marker::Model;
 

@@ -4,6 +4,9 @@ ghost use Rattle.std.specs.Io.KnownBytes.{WriteAppends, Keeps};
 ghost use Rattle.tdb_base.specs.Causes.{HasCause, settled_after_write, settled_after_finish};
 ghost use Rattle.tdb_base.specs.Fakes.{fails_at, counted};
 
+#[cfg(test)]
+mod tests;
+
 use crate::{Failed, NoMemory};
 use std::alloc::Global;
 use std::marker::Model;

@@ -4,6 +4,9 @@ ghost use Rattle.std.specs.Io.KnownBytes.{ReadConsumes};
 ghost use Rattle.tdb_base.specs.Causes.{HasCause};
 ghost use Rattle.tdb_base.specs.Fakes.{fails_at, counted};
 
+#[cfg(test)]
+mod tests;
+
 use crate::Failed;
 use std::marker::Model;
 

@@ -1,4 +1,11 @@
-ghost use Rattle.std.specs.Prelude.{◌≡◌, true};
+ghost use Rattle.std.specs.Prelude.{◌≡◌, ◌<◌, true, length, is_err, IfOk, if◌then◌else◌};
+ghost use Rattle.std.specs.Io.{ReadsAtMost, WritesAtMost};
+ghost use Rattle.std.specs.Io.KnownBytes.{ReadConsumes, WriteAppends, Keeps};
+ghost use Rattle.tdb_base.specs.Causes.{HasCause, settled_after_write, settled_after_finish};
+ghost use Rattle.tdb_base.specs.Fakes.{counted};
+
+#[cfg(test)]
+mod tests;
 
 use crate::{Failed, Sink, Source};
 use std::io::{Read, Write};
@@ -33,7 +40,12 @@ impl<R: Read> Source for StdSource<R> {
 
     ghost faults = { λ s. s.faults };
 
-    fn read(&mut self, buf: &mut [u8]) -> Result<usize, Failed> {
+    fn read(&mut self, buf: &mut [u8]) -> Result<usize, Failed>
+        ensures bound { ReadsAtMost result buf.new }
+        ensures bytes { ReadConsumes (R.remaining self.old.inner) (R.remaining self.new.inner) result buf.new }
+        ensures cause { HasCause self.old.faults self.new.faults result }
+        ensures counts { self.new.faults ≡ (if is_err result then counted self.old.faults else self.old.faults) }
+    {
         match self.inner.read(buf) {
             Ok(count) => Ok(count),
             Err(_) => {
@@ -81,7 +93,14 @@ impl<T: Write> Sink for StdSink<T> {
 
     ghost settled = { λ s. s.settled };
 
-    fn write(&mut self, piece: &[u8]) -> Result<usize, Failed> {
+    fn write(&mut self, piece: &[u8]) -> Result<usize, Failed>
+        ensures bound { WritesAtMost result piece.now }
+        ensures some { IfOk result (λ n. 0 < length piece.now → 0 < n) }
+        ensures bytes { WriteAppends (T.contents self.old.inner) (T.contents self.new.inner) result piece.now }
+        ensures cause { HasCause self.old.faults self.new.faults result }
+        ensures settles { self.new.settled ≡ settled_after_write result self.old.settled }
+        ensures counts { self.new.faults ≡ (if is_err result then counted self.old.faults else self.old.faults) }
+    {
         match self.inner.write(piece) {
             Ok(count) if count > 0 => {
                 self.settled = false;
@@ -95,7 +114,12 @@ impl<T: Write> Sink for StdSink<T> {
         }
     }
 
-    fn finish(&mut self) -> Result<(), Failed> {
+    fn finish(&mut self) -> Result<(), Failed>
+        ensures bytes { Keeps (T.contents self.old.inner) (T.contents self.new.inner) }
+        ensures cause { HasCause self.old.faults self.new.faults result }
+        ensures settles { self.new.settled ≡ settled_after_finish result self.old.settled }
+        ensures counts { self.new.faults ≡ (if is_err result then counted self.old.faults else self.old.faults) }
+    {
         match self.inner.flush() {
             Ok(()) => {
                 self.settled = true;

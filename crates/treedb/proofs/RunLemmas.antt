@@ -58,11 +58,6 @@ chosen-none words e = by (chosen words) refl e
 pub some-worker : {words : List (List ℕ)} {told : Option (List ℕ)} (run : Run words told) → 0 < run.choice.workers
 some-worker {words} {told} run = subst (λ (c : Choice). 0 < c.workers) (sym (one-choice words run.choice run.chose)) (omega arith)
 
--- what holds of every run holds of the one whose report was taken
-pub prints-also : (words : List (List ℕ)) (told old new : Option (List ℕ)) (P Q : Run words told → Type 0) → ((run : Run words told) → P run → Q run)
-    → Prints words told old new P → Prints words told old new Q
-prints-also words told old new P Q more printed = record { run = printed.run; text = printed.text; holds = more printed.run printed.holds }
-
 -- the plain sentences on a run
 pub run-equal : (words : List (List ℕ)) (told : Option (List ℕ)) (run : Run words told) → EqualLinesEqualIds run.trace run.replies
 run-equal words told run =
@@ -91,11 +86,10 @@ run-full words told run =
 
 -- a report of answers, as that of a run
 pub prints-run : (words : List (List ℕ)) (told old new : Option (List ℕ)) (trace : List Vector) → chosen words ≡ Some compact_insert
-    → IfSome told (λ bytes. valid_lines compact_insert bytes ≡ Some trace) → PrintsAnswers trace old new → Prints words told old new (λ run. Unit {0})
+    → IfSome told (λ bytes. valid_lines compact_insert bytes ≡ Some trace) → PrintsAnswers trace old new → Prints words told old new
 prints-run words told old new trace chose read printed = record {
   run = run-of words told trace printed.replies chose read printed.answers;
   text = printed.text;
-  holds = tt;
 }
 
 pub prints-run-front : (words : List (List ℕ)) (told old new : Option (List ℕ)) (trace : List Vector) → chosen words ≡ Some compact_insert

@@ -2,9 +2,8 @@
 use Rattle.std.specs.Prelude.{ℕ, List, [], ◌∷◌, ◌&&◌, codes, Option, Some, None, if◌then◌else◌}
 use Rattle.std.specs.Str.{bytes_eq}
 
--- where roots stand
+-- where roots stand: as yet in compact mode alone
 pub data Mode : Type 0 where
-  plain : Mode
   compact : Mode
 
 -- how a run goes: its mode, the bits of a slot, the flags of a vector, the workers, and the lines of a block

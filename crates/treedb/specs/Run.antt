@@ -12,7 +12,7 @@ use Rattle.trace_csv.specs.Input.{limit}
 use Rattle.trace_csv.specs.Output.{TakesFront}
 use Rattle.trace_csv.specs.Report.{report, summary_of}
 use Rattle.trace_csv.specs.Trace.{Unsigned, trace_of}
-use Rattle.treedb.specs.Choice.{Choice, Mode, plain, compact, chosen}
+use Rattle.treedb.specs.Choice.{Choice, Mode, compact, chosen}
 
 -- the run wrote its whole report
 abbrev pub is_printed : Status → Bool
@@ -25,6 +25,17 @@ is_printed s.ReadFault = false
 is_printed s.WriteFault = false
 is_printed s.NoMemory = false
 
+-- the run read its input to the end
+abbrev pub reads_to_end : Status → Bool
+reads_to_end s.Done = true
+reads_to_end s.Full = true
+reads_to_end s.BadTrace = true
+reads_to_end s.WriteFault = true
+reads_to_end s.Usage = false
+reads_to_end s.TooMuch = false
+reads_to_end s.ReadFault = false
+reads_to_end s.NoMemory = false
+
 -- what the source gave in the run: more than the limit is answered `TooMuch`, and nothing else is
 pub record GivesWithin (old new : Option (List ℕ)) (status : Status) : Type 0 where
   pub gave : List ℕ
@@ -34,7 +45,6 @@ pub record GivesWithin (old new : Option (List ℕ)) (status : Status) : Type 0 
 -- the lines that a mode takes: in compact mode those of two slots
 abbrev pub takes_lines : Mode → List Vector → Bool
 takes_lines compact lines = list_all (λ v. length v == 2) lines
-takes_lines plain lines = true
 
 -- the lines, where the mode takes them
 abbrev pub taken_lines : {E : Type 0} → Mode → Result (List Vector) E → Option (List Vector)
@@ -57,7 +67,6 @@ pub record IsOfPairs (width : ℕ) (replies : List Reply) (history : History) : 
 
 abbrev pub IsOfMode : Mode → ℕ → List Reply → History → Type 0
 IsOfMode compact width replies history = IsOfPairs width replies history
-IsOfMode plain width replies history = Unit {0}
 
 -- a run of the words over the input that a source tells: the lines of its trace, a reply for each, and the one history that the replies form
 pub record Run (words : List (List ℕ)) (told : Option (List ℕ)) : Type 0 where
@@ -74,11 +83,14 @@ pub record Run (words : List (List ℕ)) (told : Option (List ℕ)) : Type 0 whe
 abbrev pub report_of : {words : List (List ℕ)} {told : Option (List ℕ)} → Run words told → List ℕ
 report_of run = report run.replies (summary_of run.replies None)
 
--- the sink took the report of a run of which this holds
-pub record Prints (words : List (List ℕ)) (told old new : Option (List ℕ)) (P : Run words told → Type 0) : Type 0 where
+-- the sink took the report of a run
+pub record Prints (words : List (List ℕ)) (told old new : Option (List ℕ)) : Type 0 where
   pub run : Run words told
   pub text : Appends old new (report_of run)
-  pub holds : P run
+
+-- this holds of every run whose report is what the sink took
+abbrev pub OfPrinted : (words : List (List ℕ)) (told old new : Option (List ℕ)) → (Run words told → Type 0) → Type 0
+OfPrinted words told old new P = (run : Run words told) → Appends old new (report_of run) → P run
 
 -- the sink took a front of the report of a run
 pub record PrintsFront (words : List (List ℕ)) (told old new : Option (List ℕ)) : Type 0 where

@@ -7,7 +7,7 @@ ghost use Rattle.tdb_base.specs.Legal.{KeepsNames};
 ghost use Rattle.tdb_base.specs.Replies.{is_full, is_new};
 ghost use Rattle.treedb.specs.Choice.{chosen, compact_insert};
 ghost use Rattle.treedb.specs.Pairs.{IsPair, PrintsAnswers, PrintsAnswersFront};
-ghost use Rattle.treedb.specs.Run.{GivesWithin, Prints, PrintsFront, is_printed, valid_input, valid_lines};
+ghost use Rattle.treedb.specs.Run.{GivesWithin, OfPrinted, Prints, PrintsFront, is_printed, reads_to_end, valid_input, valid_lines};
 
 use crate::pairs::{WIDTH, insert_pairs};
 use crate::words::is_taken;
@@ -94,25 +94,27 @@ pub fn run<R: Threads + Wait + Sync, S: Source, K: Sink, N: Sink, G: Gate>(
     // With `WriteFault` the sink took a front of the report.
     ensures front { result ≡ Status.WriteFault → PrintsFront (map string_bytes words.now) (S.left source.old) (K.taken sink.old) (K.taken sink.new) }
 
-    // With `Done` or `Full` it took all of it: the replies to the lines, which form one history.
-    ensures end { is_printed result ≡ true → IsAtEnd (S.left source.new) }
+    // The input is read to its end before it is looked at.
+    ensures end { reads_to_end result ≡ true → IsAtEnd (S.left source.new) }
+
+    // With `Done` or `Full` the sink took all of the report: that of replies to the lines, which form one history. Of whatever history they form:
     ensures settled { is_printed result ≡ true → K.settled sink.new ≡ true }
     ensures replies_form_one_history { is_printed result ≡ true
-        → Prints (map string_bytes words.now) (S.left source.old) (K.taken sink.old) (K.taken sink.new) (λ run. Unit {0}) }
+        → Prints (map string_bytes words.now) (S.left source.old) (K.taken sink.old) (K.taken sink.new) }
     ensures full { is_printed result ≡ true
-        → Prints (map string_bytes words.now) (S.left source.old) (K.taken sink.old) (K.taken sink.new) (λ run. (result ≡ Status.Full) ↔ (list_any is_full run.replies ≡ true)) }
+        → OfPrinted (map string_bytes words.now) (S.left source.old) (K.taken sink.old) (K.taken sink.new) (λ run. (result ≡ Status.Full) ↔ (list_any is_full run.replies ≡ true)) }
     ensures equal_lines_have_equal_identifiers { is_printed result ≡ true
-        → Prints (map string_bytes words.now) (S.left source.old) (K.taken sink.old) (K.taken sink.new) (λ run. EqualLinesEqualIds run.trace run.replies) }
+        → OfPrinted (map string_bytes words.now) (S.left source.old) (K.taken sink.old) (K.taken sink.new) (λ run. EqualLinesEqualIds run.trace run.replies) }
     ensures different_lines_have_different_identifiers { is_printed result ≡ true
-        → Prints (map string_bytes words.now) (S.left source.old) (K.taken sink.old) (K.taken sink.new) (λ run. DifferentLinesDifferentIds run.trace run.replies) }
+        → OfPrinted (map string_bytes words.now) (S.left source.old) (K.taken sink.old) (K.taken sink.new) (λ run. DifferentLinesDifferentIds run.trace run.replies) }
     ensures printed_count_is_the_number_of_names { is_printed result ≡ true
-        → Prints (map string_bytes words.now) (S.left source.old) (K.taken sink.old) (K.taken sink.new) (λ run. CountsNames run.replies run.history) }
+        → OfPrinted (map string_bytes words.now) (S.left source.old) (K.taken sink.old) (K.taken sink.new) (λ run. CountsNames run.replies run.history) }
     ensures each_distinct_line_is_new_exactly_once { is_printed result ≡ true
-        → Prints (map string_bytes words.now) (S.left source.old) (K.taken sink.old) (K.taken sink.new) (λ run. EachNewOnce run.trace run.replies) }
+        → OfPrinted (map string_bytes words.now) (S.left source.old) (K.taken sink.old) (K.taken sink.new) (λ run. EachNewOnce run.trace run.replies) }
     ensures printed_count_is_the_number_of_distinct_lines { is_printed result ≡ true
-        → Prints (map string_bytes words.now) (S.left source.old) (K.taken sink.old) (K.taken sink.new) (λ run. CountsDistinct run.trace run.replies) }
+        → OfPrinted (map string_bytes words.now) (S.left source.old) (K.taken sink.old) (K.taken sink.new) (λ run. CountsDistinct run.trace run.replies) }
     ensures names_are_kept_for_good { is_printed result ≡ true
-        → Prints (map string_bytes words.now) (S.left source.old) (K.taken sink.old) (K.taken sink.new) (λ run. KeepsNames run.choice.flag_count run.history) }
+        → OfPrinted (map string_bytes words.now) (S.left source.old) (K.taken sink.old) (K.taken sink.new) (λ run. KeepsNames run.choice.flag_count run.history) }
 {
     if !is_taken(words) {
         return Status::Usage;

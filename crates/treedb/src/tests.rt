@@ -26,7 +26,7 @@ fn run_on<R: Threads + Wait + Sync, G: Gate>(
         all.push(word.to_string(alloc)?)?;
     }
     let mut source = MemSource::new(input, vec![in alloc; read]?, piece);
-    let mut sink = MemSink::new(alloc, 4096, vec![in alloc; write]?, piece)?;
+    let mut sink = MemSink::new(alloc, 1 << 17, vec![in alloc; write]?, piece)?;
     let mut notes = MemSink::new(alloc, 64, Vec::new(alloc), 64)?;
     let status = run(rt, alloc, &all, &mut source, &mut sink, &mut notes, gate);
     Ok((status, sink, notes))
@@ -125,10 +125,30 @@ fn tells_of_faults(rt: HostRuntime) -> Result<(), Fail> {
         );
     }
 
-    let input = vec![in alloc; b'0'; 67_108_865]?;
+    // A faulty first line doesn't end the reading: it is too much all the same.
+    let mut input = vec![in alloc; b'0'; 67_108_865]?;
+    assert!(rt; input.len() == 67_108_865);
+    input[1] = b'\n';
     let (status, sink, _notes) = run_on(&rt, alloc, &words, input, 1 << 20, 0, 0, &NoGate)?;
     assert_eq!(rt; status, Status::TooMuch);
     assert!(rt; sink.bytes().is_empty());
+    Ok(())
+}
+
+#[test]
+fn answers_many_lines(rt: HostRuntime) -> Result<(), Fail> {
+    let alloc = rt.alloc();
+    let mut input = Vec::new(alloc);
+    for i in 0..3000u32 {
+        let line = format!(in alloc; "{},{}\n", i % 1500, i % 3)?;
+        input.extend_from_slice(line.as_bytes())?;
+    }
+    let words = ["insert", "--mode", "compact"];
+    let (status, sink, _notes) = run_on(&rt, alloc, &words, input, 4096, 0, 0, &NoGate)?;
+    assert_eq!(rt; status, Status::Done);
+    let text = sink.bytes();
+    assert_eq!(rt; text.iter().filter(|byte| **byte == b'\n').count(), 3002);
+    assert!(rt; text.ends_with(b",seen\nlines 3000\ndistinct 1500\n"));
     Ok(())
 }
 

@@ -1,16 +1,10 @@
-use Rattle.std.proofs.Common.{◌≡◌, ◌≤◌, ◌<◌, ◌+◌, ℕ, ◌⊎◌, inl, inr, arith, sym, subst, ap, ◌∙◌, length, Bool, true, false, refl}
-use Rattle.std.specs.Prelude.{Some, slice_get, get_or, nat_lt}
+use Rattle.std.proofs.Common.{◌≡◌, ◌≤◌, ◌<◌, ℕ, ◌⊎◌, inl, inr, arith, sym, subst, ap, ◌∙◌, length}
+use Rattle.std.specs.Prelude.{Some, slice_get, get_or}
 use Rattle.std.proofs.lemmas.Option.{slice_get_within, get_or_from_slice_get}
 use Rattle.tdb_base.specs.History as h
+use Rattle.tdb_base.proofs.ListLemmas.{before-or-last}
 use Rattle.tdb_base.proofs.NameLemmas.{name-source}
 use Rattle.tdb_base.proofs.plain.is_given.Goals as goal
-
-before-or-last : (k n : ℕ) → k < n + 1 → (k < n) ⊎ (k ≡ n)
-before-or-last k n h = by (nat_lt k n) refl
-  where
-    by : (b : Bool) → nat_lt k n ≡ b → (k < n) ⊎ (k ≡ n)
-    by true e = inl (grind arith)
-    by false e = inr (grind arith)
 
 pub loop-call-preserved : goal.loop-call-preserved
 loop-call-preserved c = λ k e before at name. by k e at name (before-or-last k c.loop-call.call-index before)
