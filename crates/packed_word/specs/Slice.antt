@@ -2,7 +2,7 @@
 use Rattle.std.specs.Prelude.{◌⊎◌, ℕ, zero, suc, ◌+◌, ◌*◌, ◌/◌, ◌%◌, ◌≤◌, List, slice_index}
 use Rattle.std.specs.Int.{bit_at}
 
--- bit t of the slice is bit t mod 64 of word t div 64
+-- the bits are counted through the slice, 64 a word
 unfoldable pub bit : List ℕ → ℕ → ℕ
 bit words t = bit_at (slice_index words (t / 64)) (t % 64)
 

@@ -4,7 +4,7 @@ ghost use Rattle.packed_word.specs.Slice.{bit, field, IsApart};
 
 use crate::words::ones;
 
-/// Bit fields in a slice of words. Bit `t` of the slice is bit `t mod 64` of word `t div 64`, and a field is the number of the
+/// Bit fields in a slice of words. The bits are counted through the slice, 64 a word, and a field is the number of the
 /// bits from its place on, the first of them its least.
 pub struct Bits;
 

@@ -25,9 +25,8 @@ const ROOM: usize = 65_536;
 
 /// Every byte that the source has left, at most 67,108,864 of them, read to its end.
 ///
-/// `ReadFault` comes only where the source's count of faults rose. `TooMuch` comes exactly where the
-/// source gave more bytes than the limit, and nothing is read after that. `NoMemory` may come
-/// anywhere.
+/// With `ReadFault` the source's count of faults rose in the call. `TooMuch` is the answer to a source that gave more than
+/// that, and to no other. `NoMemory` may come anywhere.
 pub fn read_all<S: Source>(alloc: Global, source: &mut S) -> Result<Vec<u8>, InError>
     ensures bytes { IfOk result (λ v. IfSome (S.left source.old) (λ b. v.items ≡ b)) }
     ensures end { OnOk result (IsAtEnd (S.left source.new)) }

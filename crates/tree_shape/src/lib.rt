@@ -12,7 +12,7 @@ mod marking;
 use marking::{clear, mark_above};
 use std::marker::Model;
 
-/// A vector is kept as a balanced binary tree of pairs. The positions of a tree of `k` slots are numbered from 1 to
+/// The tree of pairs that keeps a vector is balanced. The positions of a tree of `k` slots are numbered from 1 to
 /// `2k - 1`: position 1 is the root, the pair at a position `p` below `k` has its left part from position `2p` and its right
 /// part from position `2p + 1`, and position `k + j` holds slot `j`. The positions from 2 to `k - 1` are the inner nodes.
 /// Contracts see a shape as its number of slots, which is from 2 to 1024.

@@ -125,6 +125,14 @@ fn tells_of_faults(rt: HostRuntime) -> Result<(), Fail> {
         );
     }
 
+    Ok(())
+}
+
+#[test]
+fn refuses_too_much(rt: HostRuntime) -> Result<(), Fail> {
+    let alloc = rt.alloc();
+    let words = ["insert", "--mode", "compact"];
+
     // A faulty first line doesn't end the reading: it is too much all the same.
     let mut input = vec![in alloc; b'0'; 67_108_865]?;
     assert!(rt; input.len() == 67_108_865);
