@@ -7,6 +7,7 @@ mod run;
 mod tests;
 mod words;
 
+pub use command_line::{Choice, ChoiceError, Job, Mode, choose};
 use run::run;
 use std::alloc::Global;
 use std::io::{BufWriter, ErrorKind};

@@ -1,0 +1,16 @@
+//! The words of the command line: one simple command of `clap`, its fourteen values and its four further rules.
+#![tactic(auto)]
+
+mod command;
+mod outcome;
+mod reading;
+mod rules;
+mod table;
+mod words;
+
+pub use outcome::{Choice, ChoiceError, Job, Mode, USAGE};
+pub use table::{TableSizes, sizes};
+pub use words::choose;
+
+#[cfg(test)]
+mod tests;
