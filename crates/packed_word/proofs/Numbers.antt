@@ -85,3 +85,10 @@ clears_flag_of width flags b value pair layout lt h k =
     let new : ℕ = bit_and (word_of width value pair) (bit_not w64 (2 ^ (2 * width + b))) in
     let c : ChangesFlags width flags (word_of width value pair) new (without_bit value b) = subst (λ (f : ℕ). ChangesFlags width flags (word_of width value pair) new (without_bit f b)) parts.flags_are (clears_flag width flags b (word_of width value pair) layout lt parts.small) in
     changed_word width flags value (without_bit value b) pair new layout h (omega arith) k c
+
+-- a word with the parts of a pair and flags is their number
+pub parts_make : (width flags value pair word : ℕ) → IsLayout width flags → value < 2 ^ flags → pair < 2 ^ (2 * width) → IsWordOf width flags value pair word
+    → word ≡ word_of width value pair
+parts_make width flags value pair word layout small fits is =
+    let made = has_parts width flags value pair layout small fits in
+    same_word width flags word (word_of width value pair) (is.right ∙ sym made.right) (is.left ∙ sym made.left) (is.flags_are ∙ sym made.flags_are) (is.rest ∙ sym made.rest)

@@ -1,7 +1,7 @@
 -- The laws of words and of fields.
-use Rattle.std.specs.Prelude.{◌≡◌, ℕ, ◌+◌, ◌*◌, ◌^◌, ◌<◌, ◌≢◌, List, bit_and, bit_or}
+use Rattle.std.specs.Prelude.{◌≡◌, ℕ, ◌+◌, ◌*◌, ◌^◌, ◌%◌, ◌<◌, ◌≢◌, List, bit_and, bit_or}
 use Rattle.std.specs.Int.{bit_at, bit_not, w64}
-use Rattle.packed_word.specs.Word.{IsLayout, flags_of, with_bit, without_bit, word_of, IsWordOf, ChangesFlags}
+use Rattle.packed_word.specs.Word.{IsLayout, left_of, right_of, pair_of, flags_of, with_bit, without_bit, word_of, IsWordOf, ChangesFlags}
 use Rattle.packed_word.specs.Slice.{bit, field}
 
 -- `|` with a flag's mask sets this flag, and changes nothing else
@@ -21,6 +21,16 @@ abbrev pub WordHasParts : Type 0
 WordHasParts =
     (width flags value pair : ℕ) → IsLayout width flags → value < 2 ^ flags → pair < 2 ^ (2 * width)
     → IsWordOf width flags value pair (word_of width value pair)
+
+-- and only this number has these parts
+abbrev pub PartsMakeWord : Type 0
+PartsMakeWord =
+    (width flags value pair word : ℕ) → IsLayout width flags → value < 2 ^ flags → pair < 2 ^ (2 * width)
+    → IsWordOf width flags value pair word → word ≡ word_of width value pair
+
+-- the pair of a word as one number is its lowest bits
+abbrev pub PairIsLowest : Type 0
+PairIsLowest = (width word : ℕ) → word % 2 ^ (2 * width) ≡ pair_of width (left_of width word) (right_of width word)
 
 -- to set a flag of such a word sets the bit of its flags' number
 abbrev pub SetsFlagOfWord : Type 0

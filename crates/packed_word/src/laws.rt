@@ -1,5 +1,5 @@
 //! The laws of words and of fields, each as the contract of a function that does nothing.
-ghost use Rattle.packed_word.specs.Laws.{SetsFlag, ClearsFlag, WordHasParts, SetsFlagOfWord, ClearsFlagOfWord, FlagIsBit, SetsBit, ClearsBit, FieldFits, FieldHasBits};
+ghost use Rattle.packed_word.specs.Laws.{SetsFlag, ClearsFlag, WordHasParts, PartsMakeWord, PairIsLowest, SetsFlagOfWord, ClearsFlagOfWord, FlagIsBit, SetsBit, ClearsBit, FieldFits, FieldHasBits};
 
 /// `word | flag_mask(b)` sets flag `b` alone, and `word & !flag_mask(b)` clears it alone.
 pub fn flags_change_alone()
@@ -11,6 +11,8 @@ pub fn flags_change_alone()
 /// makes it the word of this pair and the number with this bit set or cleared.
 pub fn words_are_numbers()
     ensures parts { WordHasParts }
+    ensures whole { PartsMakeWord }
+    ensures pair { PairIsLowest }
     ensures sets { SetsFlagOfWord }
     ensures clears { ClearsFlagOfWord }
 {}

@@ -1,7 +1,13 @@
 -- The laws of trees of pairs.
-use Rattle.std.specs.Prelude.{◌≡◌, ℕ, ◌-◌, ◌<◌, ◌≤◌, ◌↔◌, IsTrue, List, length, slice_index}
+use Rattle.std.specs.Prelude.{◌≡◌, ℕ, ◌+◌, ◌*◌, ◌^◌, ◌-◌, ◌<◌, ◌≤◌, ◌↔◌, IsTrue, List, length, slice_index}
 use Rattle.tree_shape.specs.Changed.{DiffersBelow, IsChanged, is_changed}
-use Rattle.tree_shape.specs.Tree.{IsNaming, IsPart, Stands, IsIndexOfParts, RootStands}
+use Rattle.tree_shape.specs.Tree.{left_part, right_part, IsNaming, IsPart, Stands, IsIndexOfParts, RootStands}
+
+-- a pair as one number has its left part above its right part
+abbrev pub PartsOfPair : Type 0
+PartsOfPair =
+    (width left right : ℕ) → right < 2 ^ width
+    → (left_part width (left * 2 ^ width + right) ≡ left) × (right_part width (left * 2 ^ width + right) ≡ right)
 
 -- at a slot's position exactly the slot stands for it
 abbrev pub StandsAtSlot : Type 0

@@ -1,5 +1,10 @@
 //! The laws of trees of pairs, each as the contract of a function that does nothing.
-ghost use Rattle.tree_shape.specs.Laws.{StandsAtSlot, StandsAtPair, OneVector, OneRoot, OneNumber, StandsWithMore, RootStandsWithMore, StandsWhereSame, TestsChanged};
+ghost use Rattle.tree_shape.specs.Laws.{PartsOfPair, StandsAtSlot, StandsAtPair, OneVector, OneRoot, OneNumber, StandsWithMore, RootStandsWithMore, StandsWhereSame, TestsChanged};
+
+/// The parts of a pair that is packed into one number.
+pub fn parts_of_a_pair()
+    ensures { PartsOfPair }
+{}
 
 /// What stands for a part of a vector, at a slot and at an inner position.
 pub fn stands_by_cases()
