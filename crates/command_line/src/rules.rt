@@ -1,6 +1,6 @@
 //! The four further rules of the words.
 
-ghost use Rattle.std.specs.Prelude.{◌≡◌};
+ghost use Rattle.std.specs.Prelude.{◌≡◌, true};
 ghost use Rattle.std.specs.Bool.{OnTrue};
 ghost use Rattle.command_line.specs.Rules.{is_at_most, job_allows, keeps_rules, mode_allows};
 ghost use Rattle.command_line.specs.Rules.{nodes_fit_profile, region_fits_roots, roots_hold_a_region, trace_is_small};
@@ -73,6 +73,7 @@ fn job_allows(choice: &Choice) -> bool
 pub fn keeps_rules(choice: &Choice) -> bool
     ensures value { result ≡ keeps_rules choice.now }
     ensures together { OnTrue result (FitsTogether choice.now) }
+    ensures apart { FitsTogether choice.now → result ≡ true }
 {
     nodes_fit_profile(choice) && mode_allows(choice) && job_allows(choice)
 }

@@ -106,6 +106,7 @@ treedb|bench|--slots|1024 => job bench,slots 1024
 treedb|bench|--values|1 => job bench,values 1
 treedb|bench|--values|65536 => job bench,values 65536
 treedb|bench|--seed|0 => job bench,seed 0
+treedb|bench|--mode|compact|--profile|31|--workers|2|--block|3|--nodes|9|--roots|8|--region|7|--probe|6|--stats|--lines|10|--slots|5|--values|11|--seed|12 => job bench,mode compact,profile 31,workers 2,block 3,nodes 9,roots 8,region 7,probe 6,stats on,lines 10,slots 5,values 11,seed 12
 treedb|bench|--seed|18446744073709551615 => job bench,seed 18446744073709551615
 treedb|bench|--seed=0000000000000000000000000000002 => job bench,seed 2
 treedb|--|insert => nothing
@@ -268,14 +269,11 @@ fn sizes_the_tables(rt: HostRuntime) -> Result<(), Fail> {
 }
 
 #[test]
-fn tells_the_usage(rt: HostRuntime) -> Result<(), Fail> {
-    let lines = USAGE.lines().collect::<Vec<&str>>(rt.alloc())?;
-    let want = [
-        "usage: treedb insert|distinct|bench [--mode plain|compact] [--profile 16|28|31]",
-        "  [--workers N] [--block N] [--nodes D] [--roots R] [--region S] [--probe P]",
-        "  [--stats] [--lines N] [--slots K] [--values M] [--seed S]",
-    ];
-    assert_eq!(rt; lines.as_slice(), want.as_slice());
-    assert!(rt; USAGE.ends_with('\n'));
-    Ok(())
+fn tells_the_usage(rt: HostRuntime) {
+    let want = "\
+usage: treedb insert|distinct|bench [--mode plain|compact] [--profile 16|28|31]
+  [--workers N] [--block N] [--nodes D] [--roots R] [--region S] [--probe P]
+  [--stats] [--lines N] [--slots K] [--values M] [--seed S]
+";
+    assert_eq!(rt; USAGE.as_bytes(), want.as_bytes());
 }
