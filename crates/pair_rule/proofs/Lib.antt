@@ -1,0 +1,12 @@
+pub mod Lists
+pub mod Histories
+pub mod Census
+pub mod Makers
+pub mod Buckets
+pub mod Whole
+pub mod Sounds
+pub mod Steps
+pub mod Passes
+pub mod Counts
+pub mod Rests
+pub mod Advance
