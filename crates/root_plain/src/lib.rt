@@ -1,0 +1,6 @@
+//! The root table of plain mode: a word for each named vector, whose place is the vector's identifier for good.
+#![tactic(auto)]
+
+mod root;
+
+pub use root::{PlainRoot, Roots};
