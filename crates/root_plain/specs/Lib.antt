@@ -1,3 +1,4 @@
 pub mod Plain
 pub mod Words
 pub mod Laws
+pub mod Plays
