@@ -1,1 +1,3 @@
 pub mod RootSteps
+pub mod RootPlays
+pub mod RootPasses

@@ -1,4 +1,4 @@
--- The steps on root words keep the rule.
+-- Root words: a load keeps the rule, and so does an exchange that fills an empty bucket.
 use Rattle.std.proofs.Common.{◌≡◌, ◌≢◌, ◌⊎◌, ℕ, suc, ◌+◌, ◌-◌, ◌*◌, ◌^◌, ◌<◌, ◌≤◌, List, [], ◌∷◌, ◌++◌, length, drop, set, get_or, Bool, true, false, Option, Some, None, refl, sym, ap, ◌∙◌, subst, inl, inr, ⊎_elim, eqb, arith, append-nil, length-set, get_or-set_same, get_or-set_other}
 use mathlib.Core.Option.{some, none}
 use mathlib.Core.Logic.{dite}
@@ -54,21 +54,21 @@ plain_after about log g ws ws' views id w p filled used named stay mine = record
 }
 
 -- a bucket for each root word
-root_room : (about : About) → IsPlain about → size (root_buckets about) ≡ about.root_words
+pub root_room : (about : About) → IsPlain about → size (root_buckets about) ≡ about.root_words
 unfolding size
 root_room about is = sym is.root_words_are
 
 module _ (S : Type 0) (about : About) where
-  abbrev Rule : State S V → Type 0
+  abbrev pub Rule : State S V → Type 0
   Rule = Kept about (roots_of about) (Plain about)
 
-  abbrev behind : List ℕ → List ℕ
+  abbrev pub behind : List ℕ → List ℕ
   behind ws = drop (suc (size (node_buckets about))) ws
 
-  abbrev first : ℕ
+  abbrev pub first : ℕ
   first = first_root about
 
-  behind_at : (ws : List ℕ) (i : ℕ) → root_at (behind ws) i ≡ get_or ws (first + i) 0
+  pub behind_at : (ws : List ℕ) (i : ℕ) → root_at (behind ws) i ≡ get_or ws (first + i) 0
   behind_at ws i = get_or-drop (suc (size (node_buckets about))) ws i 0
 
   module _ (s : State S V) (r : Rule s) (id : ℕ) (v : V) (e : get_elem? s.views id ≡ some v) (live : v.live ≡ true) where
@@ -138,19 +138,19 @@ module _ (S : Type 0) (about : About) where
         (c.0, c.1.0)
 
     -- the rule after a load of the root bucket i that found the word n, and what the load tells
-    pub record Sees (wants : ℕ → Bool) (i n : ℕ) : Type 0 where
+    pub record Sees (wanted : ℕ → Bool) (i n : ℕ) : Type 0 where
       pub after : V
       pub rule : Rule record { words = s.words; homes = s.homes; views = set s.views id after }
-      pub shows : Shows wants i n v after
+      pub shows : Shows wanted i n v after
       pub busy : after.busy ≡ v.busy
       pub olds : after.olds ≡ []
 
-    module _ (wants : ℕ → Bool) (i n : ℕ) (is : root_at (behind s.words) i ≡ n) (about_is : v.about ≡ about) where
+    module _ (wanted : ℕ → Bool) (i n : ℕ) (is : root_at (behind s.words) i ≡ n) (about_is : v.about ≡ about) where
       ours : (x f : ℕ) → Holds v.about n x f → Holds about n x f
       ours x f a = subst (λ (y : About). Holds y n x f) about_is a
 
       -- an empty bucket
-      sees_none : n ≡ 0 → Sees wants i n
+      sees_none : n ≡ 0 → Sees wanted i n
       sees_none blank =
           let quiet = looked [] (λ x a. absurd a) (subst (IsLegal about.flags) (sym (append-nil r.log)) r.legal) (same_none r.log) in
           let never : (x f : ℕ) → Holds v.about n x f → ⊥ = λ x f a. holds_used about x f (subst (λ (m : ℕ). Holds about m x f) blank (ours x f a)) in
@@ -162,7 +162,7 @@ module _ (S : Type 0) (about : About) where
               empty = λ z. (quiet.1, λ u a. let k = r.rooted.names u i (sym ((same_none r.log).names_are u) ∙ a) in holds_used about k.1.pair k.1.flags (subst (λ (m : ℕ). Holds about m k.1.pair k.1.flags) (is ∙ blank) k.1.holds));
               pair = λ x f a. absurd (never x f a);
               other = λ x a no. absurd (never x a.0 a.1);
-              wanted = λ x a yes. absurd (never x a.0 a.1);
+              found = λ x a yes. absurd (never x a.0 a.1);
             };
             busy = refl;
             olds = refl;
@@ -195,7 +195,7 @@ module _ (S : Type 0) (about : About) where
             )
 
         -- a pair that is not wanted
-        sees_other : wants k.pair ≡ false → Sees wants i n
+        sees_other : wanted k.pair ≡ false → Sees wanted i n
         sees_other refused =
             let legal = subst (IsLegal about.flags) (sym (append-nil r.log)) r.legal in
             let quiet = looked [] (λ x a. absurd a) legal (same_none r.log) in
@@ -207,14 +207,14 @@ module _ (S : Type 0) (about : About) where
                 empty = λ z. absurd (not_empty z);
                 pair = pair_told [] legal (same_none r.log);
                 other = λ x a not. quiet.1;
-                wanted = λ x a yes. absurd (cc (yes, refused, ap wants (only_pair x a)));
+                found = λ x a yes. absurd (cc (yes, refused, ap wanted (only_pair x a)));
               };
               busy = refl;
               olds = refl;
             }
 
         -- a pair that is wanted
-        sees_wanted : wants k.pair ≡ true → Sees wants i n
+        sees_wanted : wanted k.pair ≡ true → Sees wanted i n
         sees_wanted agreed =
             let made = call v.number false u i in
             let legal = legal-push about.flags r.log made r.legal name in
@@ -227,8 +227,8 @@ module _ (S : Type 0) (about : About) where
                 word = word_here;
                 empty = λ z. absurd (not_empty z);
                 pair = pair_told (made ∷ []) legal like;
-                other = λ x a no. absurd (cc (agreed, no, ap wants (only_pair x a)));
-                wanted = λ x a wanted. record {
+                other = λ x a no. absurd (cc (agreed, no, ap wanted (only_pair x a)));
+                found = λ x a yes. record {
                   vector = u;
                   stands = subst (λ (y : About). RootStands y.width y.slots (h.known ++ v.known) x u) (sym about_is)
                       (root_more about h.known (h.known ++ v.known) x u (λ j y b. has_front (j, y) h.known v.known b) (subst (λ (m : ℕ). RootStands about.width about.slots h.known m u) (sym (only_pair x a)) k.stands));
@@ -241,14 +241,14 @@ module _ (S : Type 0) (about : About) where
               olds = refl;
             }
 
-        sees_name : Sees wants i n
-        sees_name = by (wants k.pair) refl
+        sees_name : Sees wanted i n
+        sees_name = by (wanted k.pair) refl
           where
-            by : (b : Bool) → wants k.pair ≡ b → Sees wants i n
+            by : (b : Bool) → wanted k.pair ≡ b → Sees wanted i n
             by true t = sees_wanted t
             by false t = sees_other t
 
-      pub sees : i < size (root_buckets about) → Sees wants i n
+      pub sees : i < size (root_buckets about) → Sees wanted i n
       sees inside = ⊎_elim
           (λ (z : root_at (behind s.words) i ≡ 0). sees_none (sym is ∙ z))
           (λ (t : (y : ℕ) × Stands (root_buckets about) (IsRoot about) (root_at (behind s.words)) i y).
@@ -363,62 +363,3 @@ module _ (S : Type 0) (about : About) where
           (λ log ws nodes views k u kept legal at fits alive all. plain_houses about log ws nodes views k u kept at fits all)
           (λ k y a. inr (has_back (k, y) h.root.roots v.root.roots a)) in
           (c.0, c.1.0)
-
-  -- a load of a root bucket
-  pub seeks : (slots id : ℕ) (me : Me S V) (wants : ℕ → Bool) (i word : ℕ) → me.0.live ≡ true → me.0.about ≡ about → first + i ≡ word → i < size (root_buckets about)
-      → Allows Rule slots id me word (λ n. n) (sought wants (step slots word 0 0 none) me)
-  seeks slots id me wants i word live about_is is inside s r sl e below =
-      let n = get_or s.words word 0 in
-      let found : root_at (behind s.words) i ≡ n = behind_at s.words i ∙ ap (λ (m : ℕ). get_or s.words m 0) is in
-      let t = sees s r id me.0 e live wants i n found about_is inside in
-      let d : i ≡ word - first_root me.0.about = subst (λ (y : About). i ≡ word - first_root y) (sym about_is) (omega (arith, is)) in (
-        t.after,
-        keeps,
-        tt,
-        subst (λ (ws : List ℕ). Rule record { words = ws; homes = s.homes; views = set s.views id t.after }) (sym (set-get_or s.words word 0)) t.rule,
-        (record { slots_stay = refl; busy_stays = t.busy; no_olds = t.olds }, subst (λ (m : ℕ). Shows wants m n me.0 t.after) d t.shows),
-      )
-
-  -- an exchange that puts the pair's word into the root bucket i, if it is empty
-  pub claims : (slots id : ℕ) (me : Me S V) (i word x j new : ℕ) (vector : Vector) → me.0.live ≡ true → me.0.about ≡ about → first + i ≡ word → i < size (root_buckets about) → new ≡ 9223372036854775808 + x
-      → IsPair (root_buckets about) x → j < reach (root_buckets about) → bucket (root_buckets about) x j ≡ i → Passed (root_buckets about) (Listed me.0.root.roots) x j
-      → RootStands about.width about.slots me.0.known x vector → length vector ≡ about.slots
-      → Allows Rule slots id me word (λ n. either (eqb n 0) new n) (claimed (step slots word 0 new none) me)
-  claims slots id me i word x j new vector live about_is is inside packed small near lies passed stands long s r sl e below =
-      let n = get_or s.words word 0 in
-      let found : root_at (behind s.words) i ≡ n = behind_at s.words i ∙ ap (λ (m : ℕ). get_or s.words m 0) is in
-      let d : i ≡ word - first_root me.0.about = subst (λ (y : About). i ≡ word - first_root y) (sym about_is) (omega (arith, is)) in
-      let dx : x ≡ new - 9223372036854775808 = omega (arith, packed) in
-      let as_word : word_of about.width 0 x ≡ new = omega (arith, packed) in
-      exchanged n 0 new
-      (λ m. (w : V) × (a : Act S) × Valid s.homes me.1 a × Rule (stepped s word m id me.1 w a) × claimed (step slots word 0 new none) me n (w, carried_after me.1 a))
-      (λ z.
-      let free = found ∙ z in
-      let k = wins s r id me.0 e live i word x j vector is inside free small near lies passed stands long in
-      let h = r.holder.1 in
-      let w = catch me.0 h (r.log ++ call me.0.number true vector i ∷ []) me.0.busy (record { roots = (i, x) ∷ (h.root.roots ++ me.0.root.roots) }) in
-      let made : Called true i x me.0 w = record {
-        vector = vector;
-        stands = subst (λ (y : About). RootStands y.width y.slots (h.known ++ me.0.known) x vector) (sym about_is) (root_more about me.0.known (h.known ++ me.0.known) x vector (λ c y b. has_back (c, y) h.known me.0.known b) stands);
-        long = long ∙ ap (λ (y : About). y.slots) (sym about_is);
-        caught = k.1;
-        root = inl refl;
-      } in (
-        w,
-        keeps,
-        tt,
-        subst (λ (m : ℕ). Rule (stepped s word m id me.1 w keeps)) as_word k.0,
-        (record { slots_stay = refl; busy_stays = refl; no_olds = refl }, (λ _. subst (λ (q : ℕ × ℕ). Called true q.0 q.1 me.0 w) (λ c. (d c, dx c)) made), (λ used. absurd (used z))),
-      ))
-      (λ used.
-      let t = sees s r id me.0 e live (λ pair. pair == x) i n found about_is inside in (
-        t.after,
-        keeps,
-        tt,
-        subst (λ (ws : List ℕ). Rule record { words = ws; homes = s.homes; views = set s.views id t.after }) (sym (set-get_or s.words word 0)) t.rule,
-        (
-          record { slots_stay = refl; busy_stays = t.busy; no_olds = t.olds },
-          (λ z. absurd (used z)),
-          (λ _. subst (λ (q : ℕ × ℕ). Shows (λ pair. pair == q.1) q.0 n me.0 t.after) (λ c. (d c, dx c)) t.shows),
-        ),
-      ))

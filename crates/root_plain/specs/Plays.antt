@@ -11,6 +11,8 @@ use Rattle.pair_rule.specs.Paths.{root_buckets, size}
 use Rattle.pair_rule.specs.Plays.{Caught, first_root}
 use Rattle.pair_rule.specs.Rest.{FillsPaths, AtRest}
 use Rattle.root_plain.specs.declared.root.Roots.{Roots}
+use Rattle.root_plain.specs.declared.plays.Wanted.{Wanted}
+use Rattle.root_plain.specs.declared.plays.Wanted.TheVariants.{Pair, Each, Nothing}
 use Rattle.root_plain.specs.Plain.{Holds, IsRoot, Told}
 
 abbrev pub roots_of : About → History → Roots → List (ℕ × ℕ)
@@ -43,13 +45,19 @@ pub record Called (fresh : Bool) (id pair : ℕ) (v w : View Roots) : Type 0 whe
   pub caught : CaughtUp (call v.number fresh vector id ∷ []) v w
   pub root : Has (id, pair) w.root.roots
 
+-- whether a pair that is found is one that is wanted
+abbrev pub wants : Wanted → ℕ → Bool
+wants (Pair wanted) = λ pair. pair == wanted
+wants Each = λ pair. true
+wants Nothing = λ pair. false
+
 -- What the word n tells that was found in the root bucket `id`, by a load or by an exchange that lost. A pair that is wanted makes a call.
-pub record Shows (wants : ℕ → Bool) (id n : ℕ) (v w : View Roots) : Type 0 where
+pub record Shows (wanted : ℕ → Bool) (id n : ℕ) (v w : View Roots) : Type 0 where
   pub word : (n ≡ 0) ⊎ ((pair : ℕ) × IsRoot v.about n pair)
   pub empty : n ≡ 0 → CaughtUp [] v w × IsNoName id w.seen
   pub pair : (pair flags : ℕ) → Holds v.about n pair flags → Has (id, pair) w.root.roots × ((vector : Vector) → name_of w.seen vector ≡ Some id → flags_of w.seen vector ≡ Some flags)
-  pub other : (pair : ℕ) → IsRoot v.about n pair → wants pair ≡ false → CaughtUp [] v w
-  pub wanted : (pair : ℕ) → IsRoot v.about n pair → wants pair ≡ true → Called false id pair v w
+  pub other : (pair : ℕ) → IsRoot v.about n pair → wanted pair ≡ false → CaughtUp [] v w
+  pub found : (pair : ℕ) → IsRoot v.about n pair → wanted pair ≡ true → Called false id pair v w
 
 module _ {S : Type 0} where
   -- what a step on a root word leaves
@@ -60,11 +68,11 @@ module _ {S : Type 0} where
 
   -- a root bucket is loaded, where these pairs are wanted
   abbrev pub sought : (ℕ → Bool) → Step S → Me S (View Roots) → ℕ → Me S (View Roots) → Type 0
-  sought wants st m n m' = Leaves m m' × Shows wants (st.word - first_root m.0.about) n m.0 m'.0
+  sought wanted st m n m' = Leaves m m' × Shows wanted (st.word - first_root m.0.about) n m.0 m'.0
 
   -- a root bucket is exchanged: it was empty and now has the pair, or it is as it was
   abbrev pub claimed : Step S → Me S (View Roots) → ℕ → Me S (View Roots) → Type 0
   claimed st m n m' =
       Leaves m m'
       × (n ≡ 0 → Called true (st.word - first_root m.0.about) (st.second - 9223372036854775808) m.0 m'.0)
-      × (n ≢ 0 → Shows (λ pair. pair == st.second - 9223372036854775808) (st.word - first_root m.0.about) n m.0 m'.0)
+      × (n ≢ 0 → Shows (wants (Pair (st.second - 9223372036854775808))) (st.word - first_root m.0.about) n m.0 m'.0)
