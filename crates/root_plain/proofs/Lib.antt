@@ -1,3 +1,4 @@
 pub mod RootSteps
 pub mod RootPlays
 pub mod RootPasses
+pub mod Probing

@@ -2,3 +2,4 @@ pub mod Plain
 pub mod Words
 pub mod Laws
 pub mod Plays
+pub mod Probe

@@ -10,6 +10,7 @@ use pair_rule::{About, View};
 use std::marker::{Brand, PhantomData};
 
 /// Which pairs, if they are found in a root bucket, are what a call asks for.
+#[derive(Clone, Copy, Debug, PartialEq, Eq)]
 pub enum Wanted {
     /// This one, a packed pair.
     Pair(u64),
