@@ -2,3 +2,4 @@ pub mod RootSteps
 pub mod RootPlays
 pub mod RootPasses
 pub mod Probing
+pub mod PassLaws

@@ -3,3 +3,4 @@ pub mod Words
 pub mod Laws
 pub mod Plays
 pub mod Probe
+pub mod PassLaws

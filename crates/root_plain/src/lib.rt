@@ -5,6 +5,7 @@
 #![tactic(auto)]
 
 mod find;
+pub mod laws;
 mod plays;
 mod put;
 mod root;
