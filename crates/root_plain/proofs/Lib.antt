@@ -3,3 +3,4 @@ pub mod RootPlays
 pub mod RootPasses
 pub mod Probing
 pub mod PassLaws
+pub mod TwoSlots

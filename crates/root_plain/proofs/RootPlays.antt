@@ -86,7 +86,7 @@ module _ (S : Type 0) (about : About) where
         keeps,
         tt,
         subst (λ (m : ℕ). Rule (stepped s word m id me.1 w keeps)) as_word k.0,
-        (record { slots_stay = refl; busy_stays = refl; no_olds = refl }, (λ _. subst (λ (q : ℕ × ℕ). Called true q.0 q.1 me.0 w) (λ c. (d c, dx c)) made), (λ used. absurd (used z))),
+        (record { slots_stay = refl; busy_stays = refl; no_olds = refl }, (λ _. subst (λ (q : ℕ × ℕ). Called true q.0 q.1 me.0 w) (λ c. (d c, dx c)) made), (λ used. absurd {A = Shows (wants (Pair (new - 9223372036854775808))) (word - first_root me.0.about) n me.0 w} (used z))),
       ))
       (λ used.
       let t = sees S about s r id me.0 e live (wants (Pair x)) i n found about_is inside in (

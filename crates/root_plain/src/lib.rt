@@ -14,3 +14,6 @@ mod steps;
 pub use find::{find_id, root_pair};
 pub use put::{RootsFull, put_root};
 pub use root::{PlainRoot, Roots};
+
+#[cfg(test)]
+mod tests;
