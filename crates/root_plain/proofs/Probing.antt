@@ -198,7 +198,8 @@ roots_naming table about p r =
           let m = s.named.only i x a in
           let o = s.named.only j x b in
           let one = one_vector v.about.width v.about.slots known s.nodes.naming x m.0 o.0 plain.range.least_slots m.3 o.3 m.2 o.2 in
-          cc (m.1, o.1, ap (λ (u : Vector). name_of v.seen u) one);
+          let same : Some i ≡ Some j = sym m.1 ∙ (ap (λ (u : Vector). name_of v.seen u) one ∙ o.1) in
+          cc same;
     }
 
 -- a load at a name's bucket, where nothing is wanted

@@ -96,7 +96,7 @@ module _ (S : Type 0) (about : About) where
         subst (λ (ws : List ℕ). Rule record { words = ws; homes = s.homes; views = set s.views id t.after }) (sym (set-get_or s.words word 0)) t.rule,
         (
           record { slots_stay = refl; busy_stays = t.busy; no_olds = t.olds },
-          (λ z. absurd (used z)),
+          (λ z. absurd {A = Called true (word - first_root me.0.about) (new - 9223372036854775808) me.0 t.after} (used z)),
           (λ _. subst (λ (q : ℕ × ℕ). Shows (wants (Pair q.1)) q.0 n me.0 t.after) (λ c. (d c, dx c)) t.shows),
         ),
       ))
