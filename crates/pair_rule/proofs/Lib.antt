@@ -10,3 +10,5 @@ pub mod Passes
 pub mod Counts
 pub mod Rests
 pub mod Advance
+pub mod Names
+pub mod Catches

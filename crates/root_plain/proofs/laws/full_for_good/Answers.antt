@@ -1,0 +1,5 @@
+use Rattle.root_plain.proofs.PassLaws.{never_named}
+use Rattle.root_plain.proofs.laws.full_for_good.Goals as goal
+
+pub returns : goal.returns
+returns c = never_named

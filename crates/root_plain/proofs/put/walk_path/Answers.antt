@@ -1,0 +1,56 @@
+use Rattle.std.proofs.Common.{arith, refl, subst, sym, ap, ◌∙◌, ◌≡◌, ◌+◌, ◌*◌, ◌<◌, ℕ}
+use Rattle.packed_word.specs.Word.{pair_of}
+use Rattle.probe_path.specs.Path.{Course, Progress, walked_lines}
+use Rattle.pair_rule.specs.Paths.{root_buckets, reach, Passed, Listed}
+use Rattle.pair_rule.specs.Rest.{view}
+use Rattle.root_plain.specs.Probe.{Along, Passes}
+use Rattle.root_plain.proofs.Probing.{called_then, some_more, passes_none, passes_then, along_path, buffers_then}
+use Rattle.root_plain.proofs.put.walk_path.Goals as goal
+
+pub loop-line-init : goal.loop-line-init
+loop-line-init g c =
+    let about = c.args.table.now.about in
+    let pair = pair_of g.row.W c.args.left c.args.right in
+    let walk : c.walk-walk.result ≡ record { course = c.new-path.result; passed = 0 } = c.walk-walk.ensures in
+    let along : Along about pair (record { pair = c.packed.result; d = c.sizes-sizes.result.now.roots; lines = walked_lines c.sizes-sizes.result.now.roots c.sizes-sizes.result.now.probe }) =
+    subst (λ (n : ℕ). Along about pair (record { pair = n; d = c.sizes-sizes.result.now.roots; lines = walked_lines c.sizes-sizes.result.now.roots c.sizes-sizes.result.now.probe })) (sym c.packed.ensures.same) (along_path about c.sizes-sizes.result.now pair c.sizes-sizes.ensures) in
+    record {
+      rest = c.requires.rest;
+      along = subst (λ (p : Course). Along about pair p) (sym (ap (λ (w : Progress). w.course) walk ∙ c.new-path.ensures.course)) along;
+      line = ap (λ (w : Progress). w.passed) walk;
+      end = let len = c.len-line-end.ensures.steps in let same = ap (λ (w : Progress). w.course.lines) walk in omega (arith, len, same);
+      passes = passes_none _ about c.args.pass.now pair c.requires.rest;
+      buffers = refl;
+    }
+
+pub walk_line-requires : goal.walk_line-requires
+walk_line-requires g c =
+    let about = c.args.table.now.about in
+    let pair = pair_of g.row.W c.args.left c.args.right in
+    let i = c.loop-line.invariant in
+    let lt : c.loop-line.walk.passed < c.loop-line.walk.course.lines = omega (arith, i.line, i.end, c.loop-line-test.true) in
+    (omega arith, (omega arith, (omega arith, (i.rest, (c.requires.parts, (i.along, (lt, (
+      subst (λ (n : ℕ). Passed (root_buckets about) (Listed (view c.loop-line.pass).root.roots) pair (8 * n)) (sym i.line) i.passes.passed,
+      some_more about pair (view c.args.pass.now) (view c.loop-line.pass) i.passes.caught c.requires.stands,
+    ))))))))
+
+pub returns-in-Some-clause-told : goal.returns-in-Some-clause-told
+returns-in-Some-clause-told g c =
+    called_then c.in-Some.found.1 c.in-Some.found.0 (pair_of g.row.W c.args.left c.args.right) (view c.args.pass.now) (view c.loop-line.pass) (view c.walk_line.new.pass) c.loop-line.invariant.passes.caught c.in-Some.ensures.told
+
+pub loop-line-preserved : goal.loop-line-preserved
+loop-line-preserved g c =
+    let about = c.args.table.now.about in
+    let pair = pair_of g.row.W c.args.left c.args.right in
+    let i = c.loop-line.invariant in
+    let e = c.in_default.ensures in
+    let next = passes_then about pair (8 * c.loop-line.line) (8 * c.loop-line.walk.passed + 8) (view c.args.pass.now) (view c.loop-line.pass) (view c.walk_line.new.pass) i.passes e.told in
+    let walk : c.advance.new.self ≡ record c.loop-line.walk { passed = c.loop-line.walk.passed + 1 } = c.advance.ensures in
+    record {
+      rest = e.rest;
+      along = subst (λ (p : Course). Along about pair p) (sym (ap (λ (w : Progress). w.course) walk)) i.along;
+      line = ap (λ (w : Progress). w.passed) walk ∙ ap (λ (n : ℕ). n + 1) i.line;
+      end = i.end ∙ sym (ap (λ (w : Progress). w.course.lines) walk);
+      passes = subst (λ (n : ℕ). Passes about pair n (view c.args.pass.now) (view c.walk_line.new.pass)) (omega (arith, i.line)) next;
+      buffers = buffers_then c.args.pass.now c.loop-line.pass c.walk_line.new.pass i.buffers e.buffers;
+    }

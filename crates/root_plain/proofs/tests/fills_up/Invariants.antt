@@ -1,0 +1,9 @@
+use Rattle.std.proofs.Common.{◌≡◌}
+use Rattle.root_plain.specs.Plays.{Rests}
+use Rattle.root_plain.proofs.tests.fills_up.Given as goal
+
+abbrev pub invariant-loop-right : goal.invariant-loop-right
+invariant-loop-right g l = record {
+  slots : l.store.table.about.slots ≡ 2;
+  rest : Rests l.store.table.table.shared.table_id l.store.table.about l.pass;
+}
