@@ -1,0 +1,122 @@
+-- What `insert` answers.
+use Rattle.std.proofs.Common.{◌≡◌, ◌≢◌, ℕ, suc, ◌-◌, ◌<◌, ◌≤◌, Bool, true, false, not, List, ◌∷◌, length, Some, None, Result, Ok, Err, refl, sym, ap, ◌∙◌, subst, ⊎_elim, arith}
+use Rattle.std.proofs.lemmas.Bool.{cases_lt, not-true}
+use Rattle.cleary_core.specs.declared.Cell.{Cell}
+use Rattle.cleary_core.specs.declared.RegionFull.{RegionFull}
+use Rattle.cleary_core.specs.Cells.{carried}
+use Rattle.cleary_core.specs.Region.{Key, Taken, Keeps, Splits, Placed, Present, Row, Put, ShiftedUp, ShiftedDown, Answered, new_key}
+use Rattle.cleary_core.proofs.Slots.{cases_same, none_some, taken_of, none_of, count_full}
+use Rattle.cleary_core.proofs.Inserting.{Inserted, keeps_after, stays, from_left, from_right, moves_none, moves_right, moves_left}
+
+inserted_by : (n : ℕ) (old mid new : ℕ → Cell) (from : ℕ → ℕ) (place home quotient : ℕ) (fresh : Bool) → ((j : ℕ) → j ≢ place → mid j ≡ carried (old j).virgin (old (from j))) → (mid place).virgin ≡ (old place).virgin
+    → Put mid new place home quotient fresh → Inserted n old new from place home quotient fresh
+inserted_by n old mid new from place home quotient fresh shift virgin put = record {
+  occupied = ap (λ (c : Cell). c.occupied) put.here;
+  change = ap (λ (c : Cell). c.change) put.here;
+  flags = ap (λ (c : Cell). c.flags) put.here;
+  quotient_is = ap (λ (c : Cell). c.quotient) put.here;
+  moved = λ j h ne. put.others j ne ∙ ap (λ c. carried (new j).virgin c) (shift j ne);
+  marked = put.marked;
+  others = λ j h ne. put.unmarked j ne ∙ ⊎_elim
+      (λ (same : j ≡ place). subst (λ (m : ℕ). (mid m).virgin ≡ (old m).virgin) (sym same) virgin)
+      (λ (else : j ≢ place). ap (λ (c : Cell). c.virgin) (shift j else))
+      (cases_same j place);
+}
+
+up_at : (old mid : ℕ → Cell) (place free : ℕ) → ShiftedUp old mid place free → place ≤ free → (j : ℕ) → j ≢ place → mid j ≡ carried (old j).virgin (old (from_left place free j))
+up_at old mid place free s le j ne = ⊎_elim
+    (λ (less : j < place). s.below j (omega arith) ∙ ap (λ m. carried (old j).virgin (old m)) (omega arith))
+    (λ (from : place ≤ j). ⊎_elim
+    (λ (past : free < j). s.above j past ∙ ap (λ m. carried (old j).virgin (old m)) (omega arith))
+    (λ (within : j ≤ free). subst (λ (m : ℕ). mid m ≡ carried (old m).virgin (old (j - 1))) (omega arith) (s.moved (j - 1) (omega arith) (omega arith)) ∙ ap (λ m. carried (old j).virgin (old m)) (omega arith))
+    (cases_lt free j))
+    (cases_lt j place)
+
+down_at : (old mid : ℕ → Cell) (free place : ℕ) → ShiftedDown old mid free place → free ≤ place → (j : ℕ) → j ≢ place → mid j ≡ carried (old j).virgin (old (from_right free place j))
+down_at old mid free place s le j ne = ⊎_elim
+    (λ (less : j < free). s.below j less ∙ ap (λ m. carried (old j).virgin (old m)) (omega arith))
+    (λ (from : free ≤ j). ⊎_elim
+    (λ (within : j < place). s.moved j from within ∙ ap (λ m. carried (old j).virgin (old m)) (omega arith))
+    (λ (past : place ≤ j). s.above j past ∙ ap (λ m. carried (old j).virgin (old m)) (omega arith))
+    (cases_lt j place))
+    (cases_lt j free)
+
+module _ (n : ℕ) (old : ℕ → Cell) (keys : List Key) (kept : Keeps n old keys) (home quotient : ℕ) (inside : home < n) (new_one : Present keys home quotient → ⊥) where
+  absent : (i : ℕ) (k : Key) → kept.slots i ≡ Some k → k.home ≡ home → k.quotient ≡ quotient → ⊥
+  absent i k e h q = new_one (k, kept.holds.only i k e, h, q)
+
+  taken : (i : ℕ) → i < n → (old i).occupied ≡ true → Taken kept.slots i
+  taken i h t = taken_of n kept.slots kept.laid old kept.drawn i h t
+
+  none : (i : ℕ) → (old i).occupied ≡ false → kept.slots i ≡ None
+  none i f = none_of n kept.slots kept.laid old kept.drawn i f
+
+  splits_empty : (old home).occupied ≡ false → Splits kept.slots home home
+  splits_empty f = record {
+    before = λ j k h e. ⊎_elim
+        (λ (less : k.home < home). less)
+        (λ (from : home ≤ k.home). let t = kept.laid.run_down j home k e (omega arith) from in absurd (none_some (kept.slots home) t.0 (none home f) t.1))
+        (cases_lt k.home home);
+    after = λ j k h e. ⊎_elim
+        (λ (less : k.home < home). let t = kept.laid.run_up j home k e (omega arith) h in absurd (none_some (kept.slots home) t.0 (none home f) t.1))
+        (λ (from : home ≤ k.home). from)
+        (cases_lt k.home home);
+  }
+
+  pub keeps_still : (new : ℕ → Cell) → (old home).occupied ≡ false → Put old new home home quotient true → Keeps n new (new_key home quotient ∷ keys)
+  keeps_still new f put =
+      keeps_after n kept.slots kept.laid home quotient home (suc home) home home home stays (moves_none n home inside) (splits_empty f) (none home f)
+      (λ i a b ne. absurd (omega arith)) (omega arith, omega arith) absent old new kept.drawn true
+      (inserted_by n old old new stays home home quotient true (λ j ne. refl) refl put)
+      (λ t. ap (λ (c : Cell). c.virgin) (kept.drawn.empty home inside (none home f))) (λ v. refl) keys kept.holds
+
+  -- the run's keys stand from `start` to `end`
+  module _ (start at end : ℕ) (low : start ≤ home) (front : Row old start (suc home)) (bounds : (home ≤ end) × (end ≤ n)) (back : Row old home end) (placed : Placed n kept.slots start at home) where
+    run : (i : ℕ) → start ≤ i → i < end → Taken kept.slots i
+    run i a b = ⊎_elim
+        (λ (less : i < home). taken i (omega arith) (front i a (omega arith)))
+        (λ (from : home ≤ i). taken i (omega (arith, bounds.1)) (back i from b))
+        (cases_lt i home)
+
+    pub at_least : start ≤ at
+    at_least = placed.from
+
+    pub at_inside : at ≤ n
+    at_inside = ⊎_elim
+        (λ (less : start < at). let t = placed.row (at - 1) (omega arith) (omega arith) in let p = kept.laid.past (at - 1) t.0 t.1 in omega arith)
+        (λ (from : at ≤ start). omega arith)
+        (cases_lt start at)
+
+    pub at_most : (old end).occupied ≡ false → at ≤ end
+    at_most f = ⊎_elim
+        (λ (less : end < at). let t = placed.row end (omega (arith, bounds.0)) less in absurd (none_some (kept.slots end) t.0 (none end f) t.1))
+        (λ (from : at ≤ end). from)
+        (cases_lt end at)
+
+    pub keeps_up : (mid new : ℕ → Cell) → end < n → (old end).occupied ≡ false → ShiftedUp old mid at end → Put mid new at home quotient (not (old home).virgin) → Keeps n new (new_key home quotient ∷ keys)
+    keeps_up mid new room f shift put =
+        let le : at ≤ end = at_most f in
+        keeps_after n kept.slots kept.laid home quotient start (suc end) at at end (from_left at end) (moves_right n start at end placed.from le room) placed.splits (none end f)
+        (λ i a b ne. run i a (omega arith)) (low, omega (arith, bounds.0)) absent old new kept.drawn (not (old home).virgin)
+        (inserted_by n old mid new (from_left at end) at home quotient (not (old home).virgin) (up_at old mid at end shift le) (ap (λ (c : Cell). c.virgin) (shift.below at (omega arith))) put)
+        (λ t. not-true (old home).virgin t) (λ v. ap not v) keys kept.holds
+
+    pub keeps_down : (mid new : ℕ → Cell) → n ≤ end → 0 < start → (old (start - 1)).occupied ≡ false → ShiftedDown old mid (start - 1) (at - 1) → Put mid new (at - 1) home quotient (not (old home).virgin)
+        → Keeps n new (new_key home quotient ∷ keys)
+    keeps_down mid new over some f shift put =
+        let from : start ≤ at = placed.from in
+        let in_cells : at ≤ n = at_inside in
+        let le : start - 1 ≤ at - 1 = omega arith in
+        keeps_after n kept.slots kept.laid home quotient (start - 1) n (suc (at - 1)) (at - 1) (start - 1) (from_right (start - 1) (at - 1)) (moves_left n (start - 1) (at - 1) n le (omega arith) (omega arith))
+        (subst (λ (m : ℕ). Splits kept.slots m home) (omega arith) placed.splits) (none (start - 1) f)
+        (λ i a b ne. run i (omega arith) (omega arith)) (omega arith, inside) absent old new kept.drawn (not (old home).virgin)
+        (inserted_by n old mid new (from_right (start - 1) (at - 1)) (at - 1) home quotient (not (old home).virgin) (down_at old mid (start - 1) (at - 1) shift le) (ap (λ (c : Cell). c.virgin) (shift.above (at - 1) (omega arith))) put)
+        (λ t. not-true (old home).virgin t) (λ v. ap not v) keys kept.holds
+
+    pub full : n ≤ end → start ≤ 0 → length keys ≡ n
+    full over none_left = sym kept.holds.number ∙ count_full old n (λ i h. let t = run i (omega arith) (omega arith) in kept.drawn.occupied i t.0 t.1)
+
+pub kept_of : (result : Result Bool RegionFull) (n : ℕ) (keys : List Key) (home quotient : ℕ) (old new : ℕ → Cell) → Answered result n keys home quotient old new → (all : List Key) × Keeps n new all
+kept_of (Ok true) n keys home quotient old new a = (new_key home quotient ∷ keys, a.1)
+kept_of (Ok false) n keys home quotient old new a = (keys, a.1)
+kept_of (Err e) n keys home quotient old new a = (keys, a.2)

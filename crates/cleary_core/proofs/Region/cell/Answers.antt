@@ -1,0 +1,10 @@
+use Rattle.std.proofs.Common.{subst, sym}
+use Rattle.cleary_core.specs.Cells.{Fits}
+use Rattle.cleary_core.specs.declared.Sizes.{Sizes}
+use Rattle.cleary_core.proofs.Cells.{fits_of}
+use Rattle.cleary_core.proofs.Region.cell.Goals as goal
+
+pub read_cell-requires-clause-fits : goal.read_cell-requires-clause-fits
+read_cell-requires-clause-fits g c =
+    subst (λ (z : Sizes). Fits z c.args.words.now) (sym c.sizes-sizes.ensures)
+    (fits_of g.row.W g.row.F c.args.self.now.r c.args.self.now.s c.args.words.now c.args.self.now.sizes c.args.self.now.profile c.requires.words)
