@@ -1,10 +1,12 @@
 -- What `insert` answers.
 use Rattle.std.proofs.Common.{◌≡◌, ◌≢◌, ℕ, suc, ◌-◌, ◌<◌, ◌≤◌, Bool, true, false, not, List, ◌∷◌, length, Some, None, Result, Ok, Err, refl, sym, ap, ◌∙◌, subst, ⊎_elim, arith}
 use Rattle.std.proofs.lemmas.Bool.{cases_lt, not-true}
-use Rattle.cleary_core.specs.declared.Cell.{Cell}
-use Rattle.cleary_core.specs.declared.RegionFull.{RegionFull}
+use Rattle.cleary_core.specs.declared.cells.Cell.{Cell}
 use Rattle.cleary_core.specs.Cells.{carried}
-use Rattle.cleary_core.specs.Region.{Key, Taken, Keeps, Splits, Placed, Present, Row, Put, ShiftedUp, ShiftedDown, Answered, new_key}
+use Rattle.cleary_core.specs.Map.{Key, Taken, Keeps}
+use Rattle.cleary_core.specs.Search.{Splits, Placed, Row}
+use Rattle.cleary_core.specs.Answers.{Present, new_key}
+use Rattle.cleary_core.specs.Change.{Put, ShiftedUp, ShiftedDown}
 use Rattle.cleary_core.proofs.Slots.{cases_same, none_some, taken_of, none_of, count_full}
 use Rattle.cleary_core.proofs.Inserting.{Inserted, keeps_after, stays, from_left, from_right, moves_none, moves_right, moves_left}
 
@@ -115,8 +117,3 @@ module _ (n : ℕ) (old : ℕ → Cell) (keys : List Key) (kept : Keeps n old ke
 
     pub full : n ≤ end → start ≤ 0 → length keys ≡ n
     full over none_left = sym kept.holds.number ∙ count_full old n (λ i h. let t = run i (omega arith) (omega arith) in kept.drawn.occupied i t.0 t.1)
-
-pub kept_of : (result : Result Bool RegionFull) (n : ℕ) (keys : List Key) (home quotient : ℕ) (old new : ℕ → Cell) → Answered result n keys home quotient old new → (all : List Key) × Keeps n new all
-kept_of (Ok true) n keys home quotient old new a = (new_key home quotient ∷ keys, a.1)
-kept_of (Ok false) n keys home quotient old new a = (keys, a.1)
-kept_of (Err e) n keys home quotient old new a = (keys, a.2)

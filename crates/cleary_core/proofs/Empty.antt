@@ -4,12 +4,12 @@ use Rattle.std.specs.Int.{bit_at}
 use Rattle.std.proofs.lemmas.Nat.{mod_low, shr_high, pow_pos}
 use Rattle.std.proofs.lemmas.Nat.Bits.{bit_at-zero}
 use Rattle.packed_word.specs.Slice.{bit, field}
-use Rattle.cleary_core.specs.declared.Cell.{Cell}
-use Rattle.cleary_core.specs.declared.Sizes.{Sizes}
-use Rattle.cleary_core.specs.Cells.{width, unpacked, cell_at}
-use Rattle.cleary_core.specs.Region.{Key, Has, Keeps, empty_cell, one_if, occupied_count}
+use Rattle.cleary_core.specs.declared.cells.Cell.{Cell}
+use Rattle.cleary_core.specs.declared.cells.Sizes.{Sizes}
+use Rattle.cleary_core.specs.Cells.{mark_of, width, unpacked, cell_at}
+use Rattle.cleary_core.specs.Map.{Key, Has, Keeps, empty_cell, occupied_count}
 use Rattle.cleary_core.proofs.Slots.{none_some, same_key, clash}
-use Rattle.cleary_core.proofs.Cells.{same_cell}
+use Rattle.cleary_core.proofs.Packing.{same_cell}
 
 module _ (words : List ℕ) (zeros : (i : ℕ) → get_or words i 0 ≡ 0) where
   no_bit : (t : ℕ) → bit words t ≡ 0
@@ -31,7 +31,7 @@ module _ (words : List ℕ) (zeros : (i : ℕ) → get_or words i 0 ≡ 0) where
 
   no_count : (z : Sizes) (n : ℕ) → occupied_count (cell_at z words) n ≡ 0
   no_count z zero = refl
-  no_count z (suc n) = let a = no_count z n in let b : one_if (cell_at z words n).occupied ≡ 0 = ap (λ (c : Cell). one_if c.occupied) (no_cell z n) in omega arith
+  no_count z (suc n) = let a = no_count z n in let b : mark_of (cell_at z words n).occupied ≡ 0 = ap (λ (c : Cell). mark_of c.occupied) (no_cell z n) in omega arith
 
   pub keeps_nothing : (z : Sizes) (n : ℕ) → Keeps n (cell_at z words) []
   keeps_nothing z n =
@@ -56,6 +56,7 @@ module _ (words : List ℕ) (zeros : (i : ℕ) → get_or words i 0 ≡ 0) where
           last = λ i k e n. absurd (no k e);
         };
         holds = record {
+          map = tt;
           number = no_count z n;
           all = λ k has. absurd has;
           only = λ i k e. absurd (no k e);
@@ -69,7 +70,7 @@ one_entry n cells keys kept k l a b h q =
     let j = kept.holds.all l b in
     same_key (kept.slots j.0) k l (ap kept.slots (sym (kept.laid.once i.0 j.0 k l i.1 j.1 h q)) ∙ i.1) j.1
 
-one_most : (b : Bool) → one_if b ≤ 1
+one_most : (b : Bool) → mark_of b ≤ 1
 one_most true = omega arith
 one_most false = omega arith
 

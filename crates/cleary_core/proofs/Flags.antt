@@ -2,8 +2,9 @@
 use Rattle.std.proofs.Common.{◌≡◌, ◌≢◌, ℕ, suc, Bool, true, false, eqb, List, [], ◌∷◌, length, Option, Some, None, refl, sym, ap, ◌∙◌, subst, inl, inr, ⊎_elim, arith}
 use Rattle.std.proofs.lemmas.Bool.{eqb-true, eq-eqb}
 use Rattle.std.specs.Prelude.{◌&&◌, if◌then◌else◌}
-use Rattle.cleary_core.specs.declared.Cell.{Cell}
-use Rattle.cleary_core.specs.Region.{Key, Has, Slots, Taken, Laid, Drawn, Keeps, flag, flagged}
+use Rattle.cleary_core.specs.declared.cells.Cell.{Cell}
+use Rattle.cleary_core.specs.Map.{Key, Has, IsMap, Slots, Taken, Laid, Drawn, Keeps}
+use Rattle.cleary_core.specs.Answers.{flag, flagged}
 use Rattle.cleary_core.proofs.Slots.{cases_same, cases_bool, none_some, same_key, clash, count_same}
 
 abbrev pub lift : (Key → Key) → Option Key → Option Key
@@ -42,6 +43,13 @@ flagged_has home quotient value k (x ∷ keys) has = ⊎_elim
     (λ (e : k ≡ flag home quotient value x). let r : (l : Key) × Has l (x ∷ keys) × (k ≡ flag home quotient value l) = (x, inl refl, e) in r)
     (λ (h : Has k (flagged home quotient value keys)). let t = flagged_has home quotient value k keys h in let r : (l : Key) × Has l (x ∷ keys) × (k ≡ flag home quotient value l) = (t.0, inr t.1, t.2) in r)
     has
+
+map_flagged : (home quotient value : ℕ) (keys : List Key) → IsMap keys → IsMap (flagged home quotient value keys)
+map_flagged home quotient value [] map = map
+map_flagged home quotient value (k ∷ keys) map = (
+  (λ l has same q. let t = flagged_has home quotient value l keys has in map.0 t.0 t.1 (sym (ap (λ (x : Key). x.home) t.2) ∙ same) (sym (ap (λ (x : Key). x.quotient) t.2) ∙ q)),
+  map_flagged home quotient value keys map.1,
+)
 
 module _ (n : ℕ) (old : ℕ → Cell) (keys : List Key) (kept : Keeps n old keys) (home quotient at : ℕ) (key : Key) (here : kept.slots at ≡ Some key) (h : key.home ≡ home) (q : key.quotient ≡ quotient) where
   pub flags_here : (k : Key) → Has k keys → k.home ≡ home → k.quotient ≡ quotient → (old at).flags ≡ k.flags
@@ -133,6 +141,7 @@ module _ (n : ℕ) (old : ℕ → Cell) (keys : List Key) (kept : Keeps n old ke
       laid = laid_flags;
       drawn = drawn_flags;
       holds = record {
+        map = map_flagged home quotient value keys kept.holds.map;
         number = count_same old new n (λ i less. ap (λ (c : Cell). c.occupied) (all_but_flags i)) ∙ kept.holds.number ∙ sym (length_flagged home quotient value keys);
         all = λ k has. let t = flagged_has home quotient value k keys has in let a = kept.holds.all t.0 t.1 in
             let x : (i : ℕ) × (fs i ≡ Some k) = (a.0, to_fs a.0 t.0 a.1 ∙ ap (λ y. Some y) (sym t.2)) in x;

@@ -2,10 +2,10 @@
 use Rattle.std.proofs.Common.{◌≡◌, ◌≢◌, ℕ, zero, suc, ◌+◌, ◌-◌, ◌<◌, ◌≤◌, Bool, true, false, not, eqb, List, Option, Some, None, refl, sym, ap, ◌∙◌, subst, ⊎_elim, arith}
 use Rattle.std.specs.Prelude.{if◌then◌else◌}
 use Rattle.std.proofs.lemmas.Bool.{cases_lt, eqb-true, eq-eqb, not-true, not-false}
-use Rattle.cleary_core.specs.declared.Cell.{Cell}
-use Rattle.cleary_core.specs.Region.{Key, Has, Taken, Keeps}
+use Rattle.cleary_core.specs.declared.cells.Cell.{Cell}
+use Rattle.cleary_core.specs.Map.{Key, Has, Taken, Keeps}
 use Rattle.cleary_core.specs.Sentences.{Sentences}
-use Rattle.cleary_core.proofs.Slots.{cases_same, cases_bool, cases_option, same_key, clash, none_of, follow}
+use Rattle.cleary_core.proofs.Slots.{cases_same, cases_bool, cases_option, same_key, clash, none_of, follow, home_inside}
 use Rattle.cleary_core.proofs.Flags.{chosen, refused}
 
 scan : (ℕ → Bool) → ℕ → ℕ → ℕ
@@ -117,6 +117,8 @@ module _ (n : ℕ) (cells : ℕ → Cell) (keys : List Key) (kept : Keeps n cell
 
   pub sentences : Sentences n cells keys
   sentences = record {
+    map = kept.holds.map;
+    inside = λ k has. let a = kept.holds.all k has in home_inside n kept.slots kept.laid a.0 k a.1;
     first = first;
     stop = stop;
     number = kept.holds.number;

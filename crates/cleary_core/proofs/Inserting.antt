@@ -1,9 +1,11 @@
 -- A key put into its place, and the keys between there and a free cell moved by one.
 use Rattle.std.proofs.Common.{◌≡◌, ◌≢◌, ◌⊎◌, ℕ, suc, ◌+◌, ◌-◌, ◌<◌, ◌≤◌, min, Bool, true, false, eqb, cond, List, ◌∷◌, Some, None, refl, sym, ap, ◌∙◌, subst, inl, inr, ⊎_elim, arith}
 use Rattle.std.proofs.lemmas.Bool.{cases_lt, eq-eqb, ne_eqb}
-use Rattle.cleary_core.specs.declared.Cell.{Cell}
+use Rattle.cleary_core.specs.declared.cells.Cell.{Cell}
 use Rattle.cleary_core.specs.Cells.{carried}
-use Rattle.cleary_core.specs.Region.{Key, Has, Slots, Taken, Laid, Drawn, Holds, Keeps, empty_cell, occupied_count, Splits, new_key}
+use Rattle.cleary_core.specs.Map.{Key, Has, Slots, Taken, Laid, Drawn, Holds, Keeps, empty_cell, occupied_count}
+use Rattle.cleary_core.specs.Search.{Splits}
+use Rattle.cleary_core.specs.Answers.{new_key}
 use Rattle.cleary_core.proofs.Slots.{cases_same, cases_bool, cases_le, none_some, same_key, clash, home_inside, taken_of, virgin_taken, count_more}
 
 -- cell j gets the key of cell `from j`; `place` gets the new one, and the cells moved lie from `low` up to `high`
@@ -258,6 +260,7 @@ module _ (n : ℕ) (ps : Slots) (laid : Laid n ps) (home quotient : ℕ) (low hi
       laid = laid_after;
       drawn = drawn_after;
       holds = record {
+        map = (λ l has same q. let a = holds.all l has in absent a.0 l a.1 same q, holds.map);
         number = count_after ∙ ap suc holds.number;
         all = λ k has. ⊎_elim
             (λ (same : k ≡ new_key home quotient). let x : (i : ℕ) × (ns i ≡ Some k) = (place, ns_here ∙ ap (λ y. Some y) (sym same)) in x)

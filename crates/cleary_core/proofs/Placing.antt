@@ -1,8 +1,10 @@
 -- How the place of a group is found.
 use Rattle.std.proofs.Common.{◌≡◌, ◌≢◌, ℕ, zero, suc, ◌+◌, ◌-◌, ◌<◌, ◌≤◌, true, false, List, Option, Some, None, refl, sym, ap, ◌∙◌, ⊎_elim, arith}
 use Rattle.std.proofs.lemmas.Bool.{cases_lt}
-use Rattle.cleary_core.specs.declared.Cell.{Cell}
-use Rattle.cleary_core.specs.Region.{Key, Slots, Taken, Laid, Drawn, Keeps, Splits, Placed, Present, Row, Unbroken, HasChange, Searched, Located}
+use Rattle.cleary_core.specs.declared.cells.Cell.{Cell}
+use Rattle.cleary_core.specs.Map.{Key, Slots, Taken, Laid, Drawn, Keeps}
+use Rattle.cleary_core.specs.Search.{Splits, Placed, Row, Unbroken, HasChange, Searched, Located}
+use Rattle.cleary_core.specs.Answers.{Present}
 use Rattle.cleary_core.proofs.Slots.{cases_same, cases_bool, cases_option, cases_le, none_some, same_key, clash, together, taken_of, none_of}
 
 module _ (n : ℕ) (slots : Slots) (laid : Laid n slots) (cells : ℕ → Cell) (drawn : Drawn n cells slots) where

@@ -1,8 +1,9 @@
 -- Keys in slots, and the cells that show them.
 use Rattle.std.proofs.Common.{◌≡◌, ◌≢◌, ◌⊎◌, ℕ, zero, suc, ◌<◌, ◌≤◌, Bool, true, false, Option, Some, None, refl, sym, ap, ◌∙◌, subst, inl, inr, ⊎_elim, arith}
 use Rattle.std.proofs.lemmas.Bool.{cases_lt}
-use Rattle.cleary_core.specs.declared.Cell.{Cell}
-use Rattle.cleary_core.specs.Region.{Key, Slots, Taken, Laid, Drawn, one_if, occupied_count}
+use Rattle.cleary_core.specs.declared.cells.Cell.{Cell}
+use Rattle.cleary_core.specs.Cells.{mark_of}
+use Rattle.cleary_core.specs.Map.{Key, Slots, Taken, Laid, Drawn, occupied_count}
 
 pub cases_same : (i j : ℕ) → (i ≡ j) ⊎ (i ≢ j)
 cases_same i j = ⊎_elim
@@ -61,26 +62,26 @@ module _ (n : ℕ) (slots : Slots) (laid : Laid n slots) where
 -- one more occupied cell
 pub count_same : (old new : ℕ → Cell) (n : ℕ) → ((i : ℕ) → i < n → (new i).occupied ≡ (old i).occupied) → occupied_count new n ≡ occupied_count old n
 count_same old new zero same = refl
-count_same old new (suc n) same = let h = count_same old new n (λ i k. same i (omega arith)) in let e = ap one_if (same n (omega arith)) in omega arith
+count_same old new (suc n) same = let h = count_same old new n (λ i k. same i (omega arith)) in let e = ap mark_of (same n (omega arith)) in omega arith
 
 pub count_more : (old new : ℕ → Cell) (free n : ℕ) → free < n → (old free).occupied ≡ false → (new free).occupied ≡ true → ((i : ℕ) → i < n → i ≢ free → (new i).occupied ≡ (old i).occupied)
     → occupied_count new n ≡ suc (occupied_count old n)
 count_more old new free zero h f t same = absurd (omega arith)
 count_more old new free (suc n) h f t same = ⊎_elim
     (λ (e : free ≡ n).
-    let a : one_if (old n).occupied ≡ 0 = ap one_if (subst (λ (m : ℕ). (old m).occupied ≡ false) e f) in
-    let b : one_if (new n).occupied ≡ 1 = ap one_if (subst (λ (m : ℕ). (new m).occupied ≡ true) e t) in
+    let a : mark_of (old n).occupied ≡ 0 = ap mark_of (subst (λ (m : ℕ). (old m).occupied ≡ false) e f) in
+    let b : mark_of (new n).occupied ≡ 1 = ap mark_of (subst (λ (m : ℕ). (new m).occupied ≡ true) e t) in
     let c = count_same old new n (λ i k. same i (omega arith) (omega arith)) in
     omega arith)
     (λ (ne : free ≢ n).
     let c = count_more old new free n (omega arith) f t (λ i k d. same i (omega arith) d) in
-    let e = ap one_if (same n (omega arith) (λ d. ne (sym d))) in
+    let e = ap mark_of (same n (omega arith) (λ d. ne (sym d))) in
     omega arith)
     (cases_same free n)
 
 pub count_full : (cells : ℕ → Cell) (n : ℕ) → ((i : ℕ) → i < n → (cells i).occupied ≡ true) → occupied_count cells n ≡ n
 count_full cells zero all = refl
-count_full cells (suc n) all = let h = count_full cells n (λ i k. all i (omega arith)) in let e : one_if (cells n).occupied ≡ 1 = ap one_if (all n (omega arith)) in omega arith
+count_full cells (suc n) all = let h = count_full cells n (λ i k. all i (omega arith)) in let e : mark_of (cells n).occupied ≡ 1 = ap mark_of (all n (omega arith)) in omega arith
 
 pub cases_le : (m n : ℕ) → (m ≤ n) ⊎ (n < m)
 cases_le m n = ⊎_elim (λ (less : n < m). inr less) (λ (up : m ≤ n). inl up) (cases_lt n m)

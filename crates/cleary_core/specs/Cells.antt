@@ -1,18 +1,23 @@
 -- The cells that a region's words stand for.
-use Rattle.std.specs.Prelude.{◌≡◌, ℕ, ◌+◌, ◌-◌, ◌*◌, ◌/◌, ◌%◌, ◌<◌, ◌≤◌, ◌^◌, ◌==◌, Bool, true, false, List, length}
+use Rattle.std.specs.Prelude.{◌≡◌, ℕ, ◌+◌, ◌-◌, ◌*◌, ◌/◌, ◌%◌, ◌<◌, ◌≤◌, ◌^◌, ◌==◌, Bool, true, false, List}
 use Rattle.packed_word.specs.Slice.{field}
-use Rattle.cleary_core.specs.declared.Cell.{Cell}
-use Rattle.cleary_core.specs.declared.Sizes.{Sizes}
+use Rattle.cleary_core.specs.declared.cells.Cell.{Cell}
+use Rattle.cleary_core.specs.declared.cells.Sizes.{Sizes}
 
 -- how many bits a cell has
 abbrev pub width : Sizes → ℕ
 width z = 3 + z.flags + z.quotient
 
-pub record Fits (z : Sizes) (words : List ℕ) : Type 0 where
+-- sizes that a region may have
+pub record IsRegion (z : Sizes) : Type 0 where
   pub some : (1 ≤ z.flags) × (1 ≤ z.quotient)
   pub few : z.flags + z.quotient ≤ 60
-  pub cells : z.cells ≤ 4096
-  pub whole : 64 * length words ≡ z.cells * width z
+  pub cells : (64 ≤ z.cells) × (z.cells ≤ 4096)
+  pub whole : z.cells % 64 ≡ 0
+
+-- how many words a region has: just those that its cells fill
+abbrev pub word_count : Sizes → ℕ
+word_count z = z.cells / 64 * width z
 
 -- a cell's number: three marks, then the flags, then the quotient
 abbrev pub mark_of : Bool → ℕ
@@ -46,7 +51,3 @@ carried v c = record c { virgin = v }
 -- the sizes of a region of a table of 2^r roots in regions of 2^s cells
 abbrev pub sizes_of : ℕ → ℕ → ℕ → ℕ → Sizes
 sizes_of W F r s = record { cells = 2 ^ s; flags = F; quotient = 2 * W - r }
-
--- how many words a region has
-abbrev pub words_of : ℕ → ℕ → ℕ → ℕ → ℕ
-words_of W F r s = 2 ^ (s - 6) * (2 * W - r + 3 + F)

@@ -1,0 +1,23 @@
+-- What an insertion does to the cells.
+use Rattle.std.specs.Prelude.{◌≡◌, ◌≢◌, ℕ, suc, ◌<◌, ◌≤◌, Bool, true}
+use Rattle.cleary_core.specs.declared.cells.Cell.{Cell}
+use Rattle.cleary_core.specs.Cells.{carried}
+
+-- one key put into a cell whose virgin bit stays, and its home marked
+pub record Put (old new : ℕ → Cell) (place home quotient : ℕ) (fresh : Bool) : Type 0 where
+  pub here : new place ≡ record { occupied = true; virgin = (new place).virgin; change = fresh; flags = 0; quotient = quotient }
+  pub others : (j : ℕ) → j ≢ place → new j ≡ carried (new j).virgin (old j)
+  pub marked : (new home).virgin ≡ true
+  pub unmarked : (j : ℕ) → j ≢ home → (new j).virgin ≡ (old j).virgin
+
+-- keys moved up by one, into the cell `free`
+pub record ShiftedUp (old new : ℕ → Cell) (place free : ℕ) : Type 0 where
+  pub below : (j : ℕ) → j ≤ place → new j ≡ old j
+  pub moved : (j : ℕ) → place ≤ j → j < free → new (suc j) ≡ carried (old (suc j)).virgin (old j)
+  pub above : (j : ℕ) → free < j → new j ≡ old j
+
+-- keys moved down by one, into the cell `free`
+pub record ShiftedDown (old new : ℕ → Cell) (free place : ℕ) : Type 0 where
+  pub below : (j : ℕ) → j < free → new j ≡ old j
+  pub moved : (j : ℕ) → free ≤ j → j < place → new j ≡ carried (old j).virgin (old (suc j))
+  pub above : (j : ℕ) → place ≤ j → new j ≡ old j
