@@ -1,12 +1,13 @@
 -- What `insert` answers.
-use Rattle.std.proofs.Common.{◌≡◌, ◌≢◌, ℕ, suc, ◌-◌, ◌<◌, ◌≤◌, Bool, true, false, not, List, ◌∷◌, length, Some, None, Result, Ok, Err, refl, sym, ap, ◌∙◌, subst, ⊎_elim, arith}
+use Rattle.std.proofs.Common.{◌≡◌, ◌≢◌, ℕ, suc, ◌-◌, ◌<◌, ◌≤◌, max, ◌+◌, Bool, true, false, not, List, ◌∷◌, length, Some, None, Result, Ok, Err, refl, sym, ap, ◌∙◌, subst, ⊎_elim, arith}
 use Rattle.std.proofs.lemmas.Bool.{cases_lt, not-true}
 use Rattle.cleary_core.specs.declared.cells.Cell.{Cell}
 use Rattle.cleary_core.specs.Cells.{carried}
 use Rattle.cleary_core.specs.Map.{Key, Taken, Keeps}
-use Rattle.cleary_core.specs.Search.{Splits, Placed, Row}
+use Rattle.cleary_core.specs.Search.{InRun, RunEnd, Splits, Placed, Row}
 use Rattle.cleary_core.specs.Answers.{Present, new_key}
 use Rattle.cleary_core.specs.Change.{Put, ShiftedUp, ShiftedDown}
+use Rattle.cleary_core.proofs.Placing.{not_virgin}
 use Rattle.cleary_core.proofs.Slots.{cases_same, none_some, taken_of, none_of, count_full}
 use Rattle.cleary_core.proofs.Inserting.{Inserted, keeps_after, stays, from_left, from_right, moves_none, moves_right, moves_left}
 
@@ -117,3 +118,17 @@ module _ (n : ℕ) (old : ℕ → Cell) (keys : List Key) (kept : Keeps n old ke
 
     pub full : n ≤ end → start ≤ 0 → length keys ≡ n
     full over none_left = sym kept.holds.number ∙ count_full old n (λ i h. let t = run i (omega arith) (omega arith) in kept.drawn.occupied i t.0 t.1)
+
+-- the run goes on from its home to where it ends
+pub row_on : (n : ℕ) (cells : ℕ → Cell) (keys : List Key) (k : Keeps n cells keys) (start place home from end : ℕ) → InRun n cells k.slots start home → Placed n k.slots start place home → from ≡ max place (home + 1) → RunEnd n cells from end → Row cells home end
+row_on n cells keys k start place home from end run placed e stop = λ i a b. ⊎_elim
+    (λ (same : i ≡ home). run.row i (omega (arith, run.inside)) (omega arith))
+    (λ (ne : i ≢ home). ⊎_elim
+    (λ (less : i < from). let t = placed.row i (omega (arith, run.inside)) (omega arith) in k.drawn.occupied i t.0 t.1)
+    (λ (past : from ≤ i). stop.row i past b)
+    (cases_lt i from))
+    (cases_same i home)
+
+-- an empty cell is the home of no key
+pub none_at : (n : ℕ) (cells : ℕ → Cell) (keys : List Key) (k : Keeps n cells keys) (home quotient : ℕ) → home < n → (cells home).occupied ≡ false → Present keys home quotient → ⊥
+none_at n cells keys k home quotient inside f = not_virgin n cells keys k home quotient (ap (λ (c : Cell). c.virgin) (k.drawn.empty home inside (none_of n k.slots k.laid cells k.drawn home f)))

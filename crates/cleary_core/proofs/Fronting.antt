@@ -85,3 +85,15 @@ in_run n cells keys k start groups home low inside taken front = record {
 -- the home of a key is occupied
 pub home_occupied : (n : ℕ) (cells : ℕ → Cell) (keys : List Key) → Keeps n cells keys → (home : ℕ) → home < n → (cells home).virgin ≡ true → (cells home).occupied ≡ true
 home_occupied n cells keys k home inside t = let u = virgin_taken n k.slots k.laid cells k.drawn home inside t in k.drawn.occupied home u.0 u.1
+
+-- what a search from an occupied home found, in words that keep a map
+pub record Found (n : ℕ) (cells : ℕ → Cell) (slots : Slots) (start place home : ℕ) (cell : Cell) : Type 0 where
+  pub run : InRun n cells slots start home
+  pub placed : Placed n slots start place home
+  pub virgin : (cells home).virgin ≡ cell.virgin
+
+pub found : (n : ℕ) (cells : ℕ → Cell) (keys : List Key) (k : Keeps n cells keys) (start groups place home : ℕ) (cell : Cell) → start ≤ home → home < n → cell.occupied ≡ true → cells home ≡ cell → Front cells start groups home
+    → (InRun n cells k.slots start home → groups ≡ virgins cells start (home - start) → Placed n k.slots start place home) → Found n cells k.slots start place home cell
+found n cells keys k start groups place home cell low inside taken here front placed =
+    let run = in_run n cells keys k start groups home low inside (ap (λ (c : Cell). c.occupied) here ∙ taken) front in
+    record { run = run; placed = placed run front.count; virgin = ap (λ (c : Cell). c.virgin) here }

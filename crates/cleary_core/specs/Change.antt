@@ -1,7 +1,10 @@
 -- What an insertion does to the cells.
-use Rattle.std.specs.Prelude.{◌≡◌, ◌≢◌, ℕ, suc, ◌<◌, ◌≤◌, Bool, true}
+use Rattle.std.specs.Prelude.{◌≡◌, ◌≢◌, ℕ, suc, ◌<◌, ◌≤◌, Bool, true, not, List}
 use Rattle.cleary_core.specs.declared.cells.Cell.{Cell}
+use Rattle.cleary_core.specs.Answers.{Present}
 use Rattle.cleary_core.specs.Cells.{carried}
+use Rattle.cleary_core.specs.Map.{Key, Slots}
+use Rattle.cleary_core.specs.Search.{InRun, Placed}
 
 -- one key put into a cell whose virgin bit stays, and its home marked
 pub record Put (old new : ℕ → Cell) (place home quotient : ℕ) (fresh : Bool) : Type 0 where
@@ -21,3 +24,10 @@ pub record ShiftedDown (old new : ℕ → Cell) (free place : ℕ) : Type 0 wher
   pub below : (j : ℕ) → j < free → new j ≡ old j
   pub moved : (j : ℕ) → free ≤ j → j < place → new j ≡ carried (old j).virgin (old (suc j))
   pub above : (j : ℕ) → place ≤ j → new j ≡ old j
+
+-- where a new key of a home belongs in the home's run, and whether it is the first of its home
+pub record Belongs (n : ℕ) (cells : ℕ → Cell) (slots : Slots) (keys : List Key) (start place home quotient : ℕ) (fresh : Bool) : Type 0 where
+  pub run : InRun n cells slots start home
+  pub placed : Placed n slots start place home
+  pub absent : Present keys home quotient → ⊥
+  pub first : fresh ≡ not (cells home).virgin
