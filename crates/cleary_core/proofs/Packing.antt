@@ -79,6 +79,10 @@ unpacked_small z w h =
       quotient = shr_below (w / 8) z.quotient z.flags (subst (λ (n : ℕ). w / 8 < 2 ^ n) (omega arith) r);
     }
 
+pub cell_small : (z : Sizes) (words : List ℕ) (i : ℕ) → Small z (cell_at z words i)
+unfolding cell_at
+cell_small z words i = unpacked_small z (field words (i * width z) (width z)) (field_below words (i * width z) (width z))
+
 pub unpacked_as : (z : Sizes) (w : ℕ) → z.flags < 64 → ◌≡◌ {A = Cell} record { occupied = eqb (w % 2) 1; virgin = eqb (w / 2 % 2) 1; change = eqb (w / 4 % 2) 1; flags = bit_and (w / 8) (1 * 2 ^ z.flags % 2 ^ 64 - 1); quotient = w / 8 / 2 ^ z.flags } (unpacked z w)
 unpacked_as z w h =
     same_cell record { occupied = eqb (w % 2) 1; virgin = eqb (w / 2 % 2) 1; change = eqb (w / 4 % 2) 1; flags = bit_and (w / 8) (1 * 2 ^ z.flags % 2 ^ 64 - 1); quotient = w / 8 / 2 ^ z.flags } (unpacked z w)

@@ -13,9 +13,16 @@ Present keys home quotient = (k : Key) × Has k keys × (k.home ≡ home) × (k.
 abbrev pub Tells : Bool → List Key → ℕ → ℕ → Type 0
 Tells answer keys home quotient = MatchBool answer (Present keys home quotient) (Present keys home quotient → ⊥)
 
+-- these are the flags of the key, if the map has it
+abbrev pub TellsFlags : ℕ → List Key → ℕ → ℕ → Type 0
+TellsFlags flags keys home quotient = (k : Key) → Has k keys → k.home ≡ home → k.quotient ≡ quotient → flags ≡ k.flags
+
 -- what was reached decides the answer: whatever words of a region agree with it and keep some map, the answer is true of that map
 abbrev pub Decides : Sizes → (ℕ → ℕ → Type 0) → ℕ → ℕ → Bool → Type 0
 Decides z reached home quotient answer = (words : List ℕ) (keys : List Key) → length words ≡ word_count z → Agrees reached words → KeepsMap z words keys → Tells answer keys home quotient
+
+abbrev pub DecidesFlags : Sizes → (ℕ → ℕ → Type 0) → ℕ → ℕ → ℕ → Type 0
+DecidesFlags z reached home quotient flags = (words : List ℕ) (keys : List Key) → length words ≡ word_count z → Agrees reached words → KeepsMap z words keys → TellsFlags flags keys home quotient
 
 abbrev pub new_key : ℕ → ℕ → Key
 new_key home quotient = record { home = home; quotient = quotient; flags = 0 }

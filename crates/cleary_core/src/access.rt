@@ -55,6 +55,7 @@ pub trait WriteWords: ReadWords {
 }
 
 // The words of a slice, to be read.
+#[derive(Drop)]
 pub(crate) struct SliceReader<'a> {
     pub(crate) words: &'a [u64],
 }
@@ -81,6 +82,7 @@ impl<'a> ReadWords for SliceReader<'a> {
 }
 
 // The words of a slice, to be read and written.
+#[derive(Drop)]
 pub(crate) struct SliceWriter<'a> {
     pub(crate) words: &'a mut [u64],
 }

@@ -4,9 +4,12 @@
 mod access;
 mod cells;
 mod insertion;
+pub mod laws;
 mod reading;
+mod region;
 mod writing;
 
 pub use access::{ReadWords, WriteWords};
 pub use cells::{Cell, Sizes};
 pub use insertion::RegionFull;
+pub use region::Region;
