@@ -4,7 +4,7 @@ use Rattle.std.proofs.lemmas.Bool.{eqb-true, eq-eqb}
 use Rattle.std.specs.Prelude.{◌&&◌, if◌then◌else◌}
 use Rattle.cleary_core.specs.declared.cells.Cell.{Cell}
 use Rattle.cleary_core.specs.Map.{Key, Has, IsMap, Slots, Taken, Laid, Drawn, Keeps}
-use Rattle.cleary_core.specs.Answers.{flag, flagged}
+use Rattle.cleary_core.specs.Answers.{Present, flag, flagged}
 use Rattle.cleary_core.proofs.Slots.{cases_same, cases_bool, none_some, same_key, clash, count_same}
 
 abbrev pub lift : (Key → Key) → Option Key → Option Key
@@ -148,3 +148,18 @@ module _ (n : ℕ) (old : ℕ → Cell) (keys : List Key) (kept : Keeps n old ke
         only = λ i k e. let a = of_fs i k e in subst (λ (y : Key). Has y (flagged home quotient value keys)) (sym a.2) (has_flagged home quotient value a.0 keys (kept.holds.only i a.0 a.1));
       };
     }
+
+-- to set the flags of a key that the map hasn't changes nothing
+flag_same : (home quotient value : ℕ) (k : Key) → ((eqb k.home home && eqb k.quotient quotient) ≡ false) → flag home quotient value k ≡ k
+flag_same home quotient value k f = ap (λ m. let x : Key = record k { flags = m } in x) (refused (eqb k.home home && eqb k.quotient quotient) value k.flags f)
+
+pub flagged_absent : (home quotient value : ℕ) (keys : List Key) → (Present keys home quotient → ⊥) → flagged home quotient value keys ≡ keys
+flagged_absent home quotient value [] absent = refl
+flagged_absent home quotient value (k ∷ keys) absent =
+    let test : Bool = eqb k.home home && eqb k.quotient quotient in
+    let first : flag home quotient value k ≡ k = flag_same home quotient value k (⊎_elim
+    (λ (t : test ≡ true). let b = and_true (eqb k.home home) (eqb k.quotient quotient) t in absurd (absent (k, inl refl, eqb-true k.home home b.0, eqb-true k.quotient quotient b.1)))
+    (λ (f : test ≡ false). f)
+    (cases_bool test)) in
+    let rest : flagged home quotient value keys ≡ keys = flagged_absent home quotient value keys (λ p. absent (p.0, inr p.1, p.2, p.3)) in
+    ap (λ x. x ∷ flagged home quotient value keys) first ∙ ap (λ l. k ∷ l) rest

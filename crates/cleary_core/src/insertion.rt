@@ -27,7 +27,13 @@ pub(crate) struct Gap {
 }
 
 // Whether the group at `place` has the quotient. A home that isn't virgin has none.
-fn group_has<A: ReadWords>(sizes: &Sizes, access: &mut A, virgin: bool, place: u64, quotient: u64) -> bool
+fn group_has<A: ReadWords>(
+    sizes: &Sizes,
+    access: &mut A,
+    virgin: bool,
+    place: u64,
+    quotient: u64,
+) -> bool
     requires region { IsRegion sizes.now }
     requires words { A.count access.old ≡ word_count sizes.now }
     ensures tells { (words : List ℕ) (keys : List Key) (start home : ℕ) → Agrees (A.reached access.new) words → (k : Keeps sizes.now.cells (cell_at sizes.now words) keys)
@@ -45,7 +51,13 @@ fn group_has<A: ReadWords>(sizes: &Sizes, access: &mut A, virgin: bool, place: u
 }
 
 // Adds a key that the map hasn't: the keys from its place on move by one towards the run's end, or those before it towards the run's start.
-fn add_key<A: WriteWords>(sizes: &Sizes, access: &mut A, gap: &Gap, home: u64, quotient: u64) -> Result<bool, RegionFull>
+fn add_key<A: WriteWords>(
+    sizes: &Sizes,
+    access: &mut A,
+    gap: &Gap,
+    home: u64,
+    quotient: u64,
+) -> Result<bool, RegionFull>
     requires region { IsRegion sizes.now }
     requires words { length (A.words access.old) ≡ word_count sizes.now }
     requires inside { (home < sizes.now.cells) × (gap.now.place ≤ sizes.now.cells) }
@@ -73,7 +85,12 @@ fn add_key<A: WriteWords>(sizes: &Sizes, access: &mut A, gap: &Gap, home: u64, q
 }
 
 // Adds a key, if the map hasn't it.
-pub(crate) fn insert_key<A: WriteWords>(sizes: &Sizes, access: &mut A, home: u64, quotient: u64) -> Result<bool, RegionFull>
+pub(crate) fn insert_key<A: WriteWords>(
+    sizes: &Sizes,
+    access: &mut A,
+    home: u64,
+    quotient: u64,
+) -> Result<bool, RegionFull>
     requires region { IsRegion sizes.now }
     requires words { length (A.words access.old) ≡ word_count sizes.now }
     requires inside { home < sizes.now.cells }

@@ -13,3 +13,6 @@ pub use access::{ReadWords, WriteWords};
 pub use cells::{Cell, Sizes};
 pub use insertion::RegionFull;
 pub use region::Region;
+
+#[cfg(test)]
+mod tests;

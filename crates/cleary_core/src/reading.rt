@@ -75,9 +75,9 @@ fn group_end<A: ReadWords>(sizes: &Sizes, access: &mut A, from: u64) -> u64
 {
     let mut at = from;
     while at < sizes.cells {
-        let here = read_cell(sizes, access, at);
+        let cell = read_cell(sizes, access, at);
         at += 1;
-        if here.change {
+        if cell.change {
             return at;
         }
     }
@@ -85,7 +85,12 @@ fn group_end<A: ReadWords>(sizes: &Sizes, access: &mut A, from: u64) -> u64
 }
 
 // Where the group of a home begins, or would begin, in the run that begins at `start`, after so many other groups.
-pub(crate) fn group_place<A: ReadWords>(sizes: &Sizes, access: &mut A, start: u64, groups: u64) -> u64
+pub(crate) fn group_place<A: ReadWords>(
+    sizes: &Sizes,
+    access: &mut A,
+    start: u64,
+    groups: u64,
+) -> u64
     requires region { IsRegion sizes.now }
     requires words { A.count access.old ≡ word_count sizes.now }
     requires inside { start ≤ sizes.now.cells }
@@ -103,7 +108,12 @@ pub(crate) fn group_place<A: ReadWords>(sizes: &Sizes, access: &mut A, start: u6
 }
 
 // The cell from `from` to the end of its group that has the quotient.
-pub(crate) fn group_seek<A: ReadWords>(sizes: &Sizes, access: &mut A, from: u64, quotient: u64) -> Option<u64>
+pub(crate) fn group_seek<A: ReadWords>(
+    sizes: &Sizes,
+    access: &mut A,
+    from: u64,
+    quotient: u64,
+) -> Option<u64>
     requires region { IsRegion sizes.now }
     requires words { A.count access.old ≡ word_count sizes.now }
     ensures bounds { MatchOption result ⊤ (λ at. at < sizes.now.cells) }
@@ -147,7 +157,12 @@ pub(crate) fn run_end<A: ReadWords>(sizes: &Sizes, access: &mut A, from: u64) ->
 }
 
 // The cell that has the key.
-pub(crate) fn locate<A: ReadWords>(sizes: &Sizes, access: &mut A, home: u64, quotient: u64) -> Option<u64>
+pub(crate) fn locate<A: ReadWords>(
+    sizes: &Sizes,
+    access: &mut A,
+    home: u64,
+    quotient: u64,
+) -> Option<u64>
     requires region { IsRegion sizes.now }
     requires words { A.count access.old ≡ word_count sizes.now }
     requires inside { home < sizes.now.cells }

@@ -1,6 +1,6 @@
 ghost use Rattle.std.specs.Prelude.{◌≡◌, ℕ, ◌+◌, ◌-◌, ◌*◌, ◌^◌, ◌<◌, ◌≤◌, List, length, MatchBool, MatchResult, ⊤};
 ghost use Rattle.cleary_core.specs.Access.{Agrees};
-ghost use Rattle.cleary_core.specs.Answers.{Present, Tells, TellsFlags, Decides, DecidesFlags, Answered, flagged};
+ghost use Rattle.cleary_core.specs.Answers.{Tells, TellsFlags, Decides, DecidesFlags, Answered, flagged};
 ghost use Rattle.cleary_core.specs.Cells.{IsRegion, cell_at, sizes_of, word_count};
 ghost use Rattle.cleary_core.specs.Map.{Key, KeepsMap};
 
@@ -113,7 +113,12 @@ impl<const W: u32, const F: u32> Region<W, F> {
     }
 
     /// `insert` into words that are reached one at a time: those of the cells of the home's run, and of the free cell beside it. It puts only words that change.
-    pub fn insert_in<A: WriteWords>(&self, access: &mut A, home: u64, quotient: u64) -> Result<bool, RegionFull>
+    pub fn insert_in<A: WriteWords>(
+        &self,
+        access: &mut A,
+        home: u64,
+        quotient: u64,
+    ) -> Result<bool, RegionFull>
         requires words { length (A.words access.old) ≡ word_count self.now }
         requires home { home < self.now.cells }
         requires quotient { quotient < 2 ^ self.now.quotient }
@@ -127,7 +132,7 @@ impl<const W: u32, const F: u32> Region<W, F> {
         insert_key(&self.sizes, access, home, quotient)
     }
 
-    /// The flags of a key that the map has.
+    /// The flags of a key that the map has. No clause says what it answers for another.
     pub fn flags(&self, words: &[u64], home: u64, quotient: u64) -> u64
         requires words { length words.now ≡ word_count self.now }
         requires home { home < self.now.cells }
@@ -136,7 +141,7 @@ impl<const W: u32, const F: u32> Region<W, F> {
         self.flags_in(&mut SliceReader { words }, home, quotient)
     }
 
-    /// `flags` of words that are reached one at a time.
+    /// `flags` of words that are reached one at a time. As with `find_in`, what it reached decides the answer.
     pub fn flags_in<A: ReadWords>(&self, access: &mut A, home: u64, quotient: u64) -> u64
         requires words { A.count access.old ≡ word_count self.now }
         requires home { home < self.now.cells }
@@ -149,13 +154,14 @@ impl<const W: u32, const F: u32> Region<W, F> {
         }
     }
 
-    /// Sets the flags of a key that the map has to a value below `2^F`. All else stays.
+    /// Sets the flags of a key, if the map has it, to a value below `2^F`. All else stays.
     pub fn set_flags(&self, words: &mut [u64], home: u64, quotient: u64, value: u64)
         requires words { length words.old ≡ word_count self.now }
         requires home { home < self.now.cells }
         requires value { value < 2 ^ self.now.flags }
-        requires kept { (keys : List Key) × KeepsMap self.now words.old keys × Present keys home quotient }
-        ensures { (keys : List Key) → KeepsMap self.now words.old keys → KeepsMap self.now words.new (flagged home quotient value keys) }
+        requires kept { (keys : List Key) × KeepsMap self.now words.old keys }
+        ensures flagged { (keys : List Key) → KeepsMap self.now words.old keys → KeepsMap self.now words.new (flagged home quotient value keys) }
+        ensures kept { (keys : List Key) × KeepsMap self.now words.new keys }
     {
         self.set_flags_in(&mut SliceWriter { words }, home, quotient, value)
     }
@@ -165,8 +171,9 @@ impl<const W: u32, const F: u32> Region<W, F> {
         requires words { length (A.words access.old) ≡ word_count self.now }
         requires home { home < self.now.cells }
         requires value { value < 2 ^ self.now.flags }
-        requires kept { (keys : List Key) × KeepsMap self.now (A.words access.old) keys × Present keys home quotient }
+        requires kept { (keys : List Key) × KeepsMap self.now (A.words access.old) keys }
         ensures flagged { (keys : List Key) → KeepsMap self.now (A.words access.old) keys → KeepsMap self.now (A.words access.new) (flagged home quotient value keys) }
+        ensures kept { (keys : List Key) × KeepsMap self.now (A.words access.new) keys }
         ensures length { length (A.words access.new) ≡ length (A.words access.old) }
         ensures writes { A.writes access.old access.new }
     {
@@ -174,6 +181,14 @@ impl<const W: u32, const F: u32> Region<W, F> {
             return;
         };
         let here = own_cell(&self.sizes, access, at);
-        write_cell(&self.sizes, access, at, Cell { flags: value, ..here });
+        write_cell(
+            &self.sizes,
+            access,
+            at,
+            Cell {
+                flags: value,
+                ..here
+            },
+        );
     }
 }

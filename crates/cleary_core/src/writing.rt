@@ -76,7 +76,14 @@ pub(crate) fn write_cell<A: WriteWords>(sizes: &Sizes, access: &mut A, i: u64, c
 }
 
 // Writes a key into a cell, and marks its home.
-pub(crate) fn put_key<A: WriteWords>(sizes: &Sizes, access: &mut A, place: u64, home: u64, quotient: u64, fresh: bool)
+pub(crate) fn put_key<A: WriteWords>(
+    sizes: &Sizes,
+    access: &mut A,
+    place: u64,
+    home: u64,
+    quotient: u64,
+    fresh: bool,
+)
     requires region { IsRegion sizes.now }
     requires words { length (A.words access.old) ≡ word_count sizes.now }
     requires inside { (place < sizes.now.cells) × (home < sizes.now.cells) }
@@ -86,10 +93,24 @@ pub(crate) fn put_key<A: WriteWords>(sizes: &Sizes, access: &mut A, place: u64, 
     ensures writes { A.writes access.old access.new }
 {
     let before = own_cell(sizes, access, place);
-    let key = Cell { occupied: true, change: fresh, flags: 0, quotient, ..before };
+    let key = Cell {
+        occupied: true,
+        change: fresh,
+        flags: 0,
+        quotient,
+        ..before
+    };
     write_cell(sizes, access, place, key);
     let there = own_cell(sizes, access, home);
-    write_cell(sizes, access, home, Cell { virgin: true, ..there });
+    write_cell(
+        sizes,
+        access,
+        home,
+        Cell {
+            virgin: true,
+            ..there
+        },
+    );
 }
 
 // Moves the keys from `place` up to `free` by one cell. The virgin marks stay.
@@ -105,7 +126,15 @@ pub(crate) fn shift_up<A: WriteWords>(sizes: &Sizes, access: &mut A, place: u64,
     let mut at = free;
     while at > place {
         let left = own_cell(sizes, access, at - 1);
-        write_cell(sizes, access, at, Cell { virgin: here.virgin, ..left });
+        write_cell(
+            sizes,
+            access,
+            at,
+            Cell {
+                virgin: here.virgin,
+                ..left
+            },
+        );
         here = left;
         at -= 1;
     }
@@ -120,12 +149,20 @@ pub(crate) fn shift_down<A: WriteWords>(sizes: &Sizes, access: &mut A, free: u64
     ensures shifted { ShiftedDown (cell_at sizes.now (A.words access.old)) (cell_at sizes.now (A.words access.new)) free place }
     ensures writes { A.writes access.old access.new }
 {
-    let mut here = own_cell(sizes, access, free);
+    let mut there = own_cell(sizes, access, free);
     let mut at = free;
     while at < place {
         let right = own_cell(sizes, access, at + 1);
-        write_cell(sizes, access, at, Cell { virgin: here.virgin, ..right });
-        here = right;
+        write_cell(
+            sizes,
+            access,
+            at,
+            Cell {
+                virgin: there.virgin,
+                ..right
+            },
+        );
+        there = right;
         at += 1;
     }
 }

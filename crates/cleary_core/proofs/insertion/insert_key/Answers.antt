@@ -21,9 +21,11 @@ returns-then-not-here-clause-answer g c = λ keys k.
     = subst (λ (w : List ℕ). Agrees (g.A.ReadWords.reached c.read_cell-here.new.access) w) same (g.met.A.WriteWords.stands c.read_cell-here.new.access).1 in
     let empty : (cell_at c.args.sizes.now (g.A.WriteWords.words c.args.access.now) c.args.home).occupied ≡ false
     = ap (λ (x : Cell). x.occupied) (c.read_cell-here.ensures.value old_words agrees) ∙ not-true c.read_cell-here.result.occupied c.if-not-here.true in
-    let absent = none_at n old keys k c.args.home c.args.quotient c.requires.inside empty in
-    (absent, keeps_still n old keys k c.args.home c.args.quotient c.requires.inside absent new empty
-    (subst (λ (w : List ℕ). Put (cell_at c.args.sizes.now w) new c.args.home c.args.home c.args.quotient true) same c.put_key.ensures.put))
+    let absent = none_at n old keys k c.args.home c.args.quotient c.requires.inside empty in (
+      absent,
+      keeps_still n old keys k c.args.home c.args.quotient c.requires.inside absent new empty
+          (subst (λ (w : List ℕ). Put (cell_at c.args.sizes.now w) new c.args.home c.args.home c.args.quotient true) same c.put_key.ensures.put),
+    )
 
 pub returns-then-group_has-clause-answer : goal.returns-then-group_has-clause-answer
 returns-then-group_has-clause-answer g c = λ keys old.

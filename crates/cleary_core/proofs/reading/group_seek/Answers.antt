@@ -9,12 +9,17 @@ pub returns-then-here-clause-sought : goal.returns-then-here-clause-sought
 returns-then-here-clause-sought g c = λ words agrees has.
     let at : ℕ = c.loop-at.at in
     let before = c.loop-at.invariant in
-    let old : Agrees (g.A.ReadWords.reached c.loop-at.access) words = λ j m h. agrees j m ((g.met.A.ReadWords.keeps c.loop-at.access c.read_cell-here.new.access c.read_cell-here.ensures.reads).1 j m h) in
-    (at, before.low, c.loop-at-test.true, before.row words old, ap (λ (x : Cell). x.change) (c.read_cell-here.ensures.value words agrees) ∙ c.if-here.true,
-        (λ j a b e. ⊎_elim
-        (λ (less : j < at). before.none words old j a less e)
-        (λ (from : at ≤ j). c.if-here-quotient.false (ap (λ (x : Cell). x.quotient) (sym (c.read_cell-here.ensures.value words agrees)) ∙ ap (λ (m : ℕ). (cell_at c.args.sizes.now words m).quotient) (omega arith) ∙ e))
-        (cases_lt j at)))
+    let old : Agrees (g.A.ReadWords.reached c.loop-at.access) words = λ j m h. agrees j m ((g.met.A.ReadWords.keeps c.loop-at.access c.read_cell-here.new.access c.read_cell-here.ensures.reads).1 j m h) in (
+      at,
+      before.low,
+      c.loop-at-test.true,
+      before.row words old,
+      ap (λ (x : Cell). x.change) (c.read_cell-here.ensures.value words agrees) ∙ c.if-here.true,
+      (λ j a b e. ⊎_elim
+          (λ (less : j < at). before.none words old j a less e)
+          (λ (from : at ≤ j). c.if-here-quotient.false (ap (λ (x : Cell). x.quotient) (sym (c.read_cell-here.ensures.value words agrees)) ∙ ap (λ (m : ℕ). (cell_at c.args.sizes.now words m).quotient) (omega arith) ∙ e))
+          (cases_lt j at)),
+    )
 
 pub loop-at-preserved : goal.loop-at-preserved
 loop-at-preserved g c =
