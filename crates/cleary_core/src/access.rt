@@ -6,8 +6,8 @@ ghost use Rattle.cleary_core.specs.Access.{Agrees};
 /// A reader without a lock may find two words at one place, if it asks twice, and what it found may be words of no one moment.
 /// A contract over `reached` speaks of whatever words agree with all that was found.
 pub trait ReadWords {
-    /// How many words there are.
-    ghost count: { Self → ℕ };
+    /// There are so many words, and they can be reached. What else must hold for that, each `impl` says here.
+    ghost spans: { Self → ℕ → Type 0 };
 
     /// This word was found at this place.
     ghost reached: { Self → ℕ → ℕ → Type 0 };
@@ -17,7 +17,7 @@ pub trait ReadWords {
 
     /// The word at a place.
     fn get(&mut self, place: usize) -> u64
-        requires { place < count self.old }
+        requires { (count : ℕ) × spans self.old count × (place < count) }
         ensures found { reached self.new place result }
         ensures reads { reads self.old self.new };
 
@@ -26,8 +26,8 @@ pub trait ReadWords {
 
     ghost joins: { (x y z : Self) → reads x y → reads y z → reads x z };
 
-    // What was found stays found.
-    ghost keeps: { (x y : Self) → reads x y → (count y ≡ count x) × ((i m : ℕ) → reached x i m → reached y i m) };
+    // Reading leaves how many words there are, and what was found stays found.
+    ghost keeps: { (x y : Self) → reads x y → ((count : ℕ) → spans x count → spans y count) × ((i m : ℕ) → reached x i m → reached y i m) };
 }
 
 /// The words of a region that are the caller's own to read and write, one at a time.
@@ -35,18 +35,19 @@ pub trait WriteWords: ReadWords {
     /// The words.
     ghost words: { Self → List ℕ };
 
-    /// The second comes from the first by reading and writing words alone.
+    /// The second comes from the first by reading and writing words alone. What else these leave as it was, each `impl` says here.
     ghost writes: { Self → Self → Type 0 };
 
     /// Puts a word at a place that has another.
     fn put(&mut self, place: usize, value: u64)
-        requires inside { place < length (words self.old) }
+        requires inside { (count : ℕ) × Self.spans self.old count × (place < count) }
         requires other { ¬ (slice_index (words self.old) place ≡ value) }
         ensures put { words self.new ≡ slice_set (words self.old) place value }
+        ensures spans { (count : ℕ) → Self.spans self.old count → Self.spans self.new count }
         ensures writes { writes self.old self.new };
 
-    // What was found are the words.
-    ghost stands: { (x : Self) → (length (words x) ≡ Self.count x) × Agrees (Self.reached x) (words x) };
+    // The words are so many, and what was found are they.
+    ghost stands: { (x : Self) (count : ℕ) → Self.spans x count → (length (words x) ≡ count) × Agrees (Self.reached x) (words x) };
 
     // Reading leaves them.
     ghost same: { (x y : Self) → Self.reads x y → (words y ≡ words x) × writes x y };
@@ -64,7 +65,7 @@ impl<'a> ReadWords for SliceReader<'a> {
     ghost use Rattle.std.specs.Prelude.{refl};
     ghost use Rattle.std.proofs.Common.{◌∙◌, ap};
 
-    ghost count = { λ s. length s.words.now };
+    ghost spans = { λ s count. length s.words.now ≡ count };
 
     ghost reached = { λ s i m. slice_index s.words.now i ≡ m };
 
@@ -74,7 +75,7 @@ impl<'a> ReadWords for SliceReader<'a> {
 
     ghost joins = { λ x y z p q. q ∙ p };
 
-    ghost keeps = { λ x y r. (ap (λ s. length s.words.now) r, λ i m h. ap (λ s. slice_index s.words.now i) r ∙ h) };
+    ghost keeps = { λ x y r. (λ count e. ap (λ s. length s.words.now) r ∙ e, λ i m h. ap (λ s. slice_index s.words.now i) r ∙ h) };
 
     fn get(&mut self, place: usize) -> u64 {
         self.words[place]
@@ -91,7 +92,7 @@ impl<'a> ReadWords for SliceWriter<'a> {
     ghost use Rattle.std.specs.Prelude.{refl};
     ghost use Rattle.std.proofs.Common.{◌∙◌, ap};
 
-    ghost count = { λ s. length s.words.now };
+    ghost spans = { λ s count. length s.words.now ≡ count };
 
     ghost reached = { λ s i m. slice_index s.words.now i ≡ m };
 
@@ -101,7 +102,7 @@ impl<'a> ReadWords for SliceWriter<'a> {
 
     ghost joins = { λ x y z p q. (q.0 ∙ p.0, q.1 ∙ p.1) };
 
-    ghost keeps = { λ x y r. (ap (λ w. length w) r.0, λ i m h. ap (λ w. slice_index w i) r.0 ∙ h) };
+    ghost keeps = { λ x y r. (λ count e. ap (λ w. length w) r.0 ∙ e, λ i m h. ap (λ w. slice_index w i) r.0 ∙ h) };
 
     fn get(&mut self, place: usize) -> u64 {
         self.words[place]
@@ -116,7 +117,7 @@ impl<'a> WriteWords for SliceWriter<'a> {
 
     ghost writes = { λ s t. t.words.ghost_name ≡ s.words.ghost_name };
 
-    ghost stands = { λ x. (refl, λ i m h. h) };
+    ghost stands = { λ x count e. (e, λ i m h. h) };
 
     ghost same = { λ x y r. r };
 

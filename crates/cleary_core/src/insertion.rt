@@ -35,11 +35,11 @@ fn group_has<A: ReadWords>(
     quotient: u64,
 ) -> bool
     requires region { IsRegion sizes.now }
-    requires words { A.count access.old ≡ word_count sizes.now }
+    requires words { A.spans access.old (word_count sizes.now) }
     ensures tells { (words : List ℕ) (keys : List Key) (start home : ℕ) → Agrees (A.reached access.new) words → (k : Keeps sizes.now.cells (cell_at sizes.now words) keys)
         → InRun sizes.now.cells (cell_at sizes.now words) k.slots start home → Placed sizes.now.cells k.slots start place home → (cell_at sizes.now words home).virgin ≡ virgin → Tells result keys home quotient }
     ensures reads { A.reads access.old access.new }
-    ensures words { A.count access.new ≡ word_count sizes.now }
+    ensures words { A.spans access.new (word_count sizes.now) }
 {
     if !virgin {
         return false;
@@ -59,7 +59,7 @@ fn add_key<A: WriteWords>(
     quotient: u64,
 ) -> Result<bool, RegionFull>
     requires region { IsRegion sizes.now }
-    requires words { length (A.words access.old) ≡ word_count sizes.now }
+    requires words { A.spans access.old (word_count sizes.now) }
     requires inside { (home < sizes.now.cells) × (gap.now.place ≤ sizes.now.cells) }
     requires small { quotient < 2 ^ sizes.now.quotient }
     requires kept { (keys : List Key) × KeepsMap sizes.now (A.words access.old) keys }
@@ -67,7 +67,7 @@ fn add_key<A: WriteWords>(
         → Belongs sizes.now.cells (cell_at sizes.now (A.words access.old)) k.slots keys gap.now.start gap.now.place home quotient gap.now.fresh }
     ensures answer { (keys : List Key) → KeepsMap sizes.now (A.words access.old) keys → Answered result sizes.now keys home quotient (A.words access.new) }
     ensures unchanged { MatchResult result (λ fresh. MatchBool fresh ⊤ (A.words access.new ≡ A.words access.old)) (λ _. A.words access.new ≡ A.words access.old) }
-    ensures words { length (A.words access.new) ≡ word_count sizes.now }
+    ensures words { A.spans access.new (word_count sizes.now) }
     ensures writes { A.writes access.old access.new }
 {
     let end = run_end(sizes, access, gap.place.max(home + 1));
@@ -92,13 +92,13 @@ pub(crate) fn insert_key<A: WriteWords>(
     quotient: u64,
 ) -> Result<bool, RegionFull>
     requires region { IsRegion sizes.now }
-    requires words { length (A.words access.old) ≡ word_count sizes.now }
+    requires words { A.spans access.old (word_count sizes.now) }
     requires inside { home < sizes.now.cells }
     requires small { quotient < 2 ^ sizes.now.quotient }
     requires kept { (keys : List Key) × KeepsMap sizes.now (A.words access.old) keys }
     ensures answer { (keys : List Key) → KeepsMap sizes.now (A.words access.old) keys → Answered result sizes.now keys home quotient (A.words access.new) }
     ensures unchanged { MatchResult result (λ fresh. MatchBool fresh ⊤ (A.words access.new ≡ A.words access.old)) (λ _. A.words access.new ≡ A.words access.old) }
-    ensures words { length (A.words access.new) ≡ word_count sizes.now }
+    ensures words { A.spans access.new (word_count sizes.now) }
     ensures writes { A.writes access.old access.new }
 {
     let here = read_cell(sizes, access, home);

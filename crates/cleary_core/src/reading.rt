@@ -12,12 +12,12 @@ use packed_word::Bits;
 #[inline]
 pub(crate) fn read_cell<A: ReadWords>(sizes: &Sizes, access: &mut A, i: u64) -> Cell
     requires region { IsRegion sizes.now }
-    requires words { A.count access.old ≡ word_count sizes.now }
+    requires words { A.spans access.old (word_count sizes.now) }
     requires inside { i < sizes.now.cells }
     ensures value { (words : List ℕ) → Agrees (A.reached access.new) words → cell_at sizes.now words i ≡ result }
     ensures small { Small sizes.now result }
     ensures reads { A.reads access.old access.new }
-    ensures words { A.count access.new ≡ word_count sizes.now }
+    ensures words { A.spans access.new (word_count sizes.now) }
 {
     let at = start_of(sizes, i);
     let bits = 3 + sizes.flags + sizes.quotient;
@@ -43,12 +43,12 @@ pub(crate) struct RunFront {
 // What stands in the run of an occupied `home` before it.
 pub(crate) fn run_front<A: ReadWords>(sizes: &Sizes, access: &mut A, home: u64) -> RunFront
     requires region { IsRegion sizes.now }
-    requires words { A.count access.old ≡ word_count sizes.now }
+    requires words { A.spans access.old (word_count sizes.now) }
     requires inside { home < sizes.now.cells }
     ensures low { result.start ≤ home }
     ensures front { (words : List ℕ) → Agrees (A.reached access.new) words → Front (cell_at sizes.now words) result.start result.groups home }
     ensures reads { A.reads access.old access.new }
-    ensures words { A.count access.new ≡ word_count sizes.now }
+    ensures words { A.spans access.new (word_count sizes.now) }
 {
     let mut start = home;
     let mut groups = 0;
@@ -66,12 +66,12 @@ pub(crate) fn run_front<A: ReadWords>(sizes: &Sizes, access: &mut A, home: u64) 
 // Where the group that stands from `from` on ends: the cell after its last, or the number of cells.
 fn group_end<A: ReadWords>(sizes: &Sizes, access: &mut A, from: u64) -> u64
     requires region { IsRegion sizes.now }
-    requires words { A.count access.old ≡ word_count sizes.now }
+    requires words { A.spans access.old (word_count sizes.now) }
     requires inside { from ≤ sizes.now.cells }
     ensures bounds { (from ≤ result) × (result ≤ sizes.now.cells) }
     ensures end { (words : List ℕ) → Agrees (A.reached access.new) words → HasChange sizes.now.cells (cell_at sizes.now words) from → EndsGroup (cell_at sizes.now words) from result }
     ensures reads { A.reads access.old access.new }
-    ensures words { A.count access.new ≡ word_count sizes.now }
+    ensures words { A.spans access.new (word_count sizes.now) }
 {
     let mut at = from;
     while at < sizes.cells {
@@ -92,13 +92,13 @@ pub(crate) fn group_place<A: ReadWords>(
     groups: u64,
 ) -> u64
     requires region { IsRegion sizes.now }
-    requires words { A.count access.old ≡ word_count sizes.now }
+    requires words { A.spans access.old (word_count sizes.now) }
     requires inside { start ≤ sizes.now.cells }
     ensures bounds { (start ≤ result) × (result ≤ sizes.now.cells) }
     ensures place { (words : List ℕ) (slots : Slots) (home : ℕ) → Agrees (A.reached access.new) words → InRun sizes.now.cells (cell_at sizes.now words) slots start home
         → groups ≡ virgins (cell_at sizes.now words) start (home - start) → Placed sizes.now.cells slots start result home }
     ensures reads { A.reads access.old access.new }
-    ensures words { A.count access.new ≡ word_count sizes.now }
+    ensures words { A.spans access.new (word_count sizes.now) }
 {
     let mut at = start;
     for _ in 0..groups {
@@ -115,11 +115,11 @@ pub(crate) fn group_seek<A: ReadWords>(
     quotient: u64,
 ) -> Option<u64>
     requires region { IsRegion sizes.now }
-    requires words { A.count access.old ≡ word_count sizes.now }
+    requires words { A.spans access.old (word_count sizes.now) }
     ensures bounds { MatchOption result ⊤ (λ at. at < sizes.now.cells) }
     ensures sought { (words : List ℕ) → Agrees (A.reached access.new) words → HasChange sizes.now.cells (cell_at sizes.now words) from → Searched result sizes.now.cells (cell_at sizes.now words) from quotient }
     ensures reads { A.reads access.old access.new }
-    ensures words { A.count access.new ≡ word_count sizes.now }
+    ensures words { A.spans access.new (word_count sizes.now) }
 {
     let mut at = from;
     while at < sizes.cells {
@@ -138,12 +138,12 @@ pub(crate) fn group_seek<A: ReadWords>(
 // The first cell from `from` on that isn't occupied, or the number of cells.
 pub(crate) fn run_end<A: ReadWords>(sizes: &Sizes, access: &mut A, from: u64) -> u64
     requires region { IsRegion sizes.now }
-    requires words { A.count access.old ≡ word_count sizes.now }
+    requires words { A.spans access.old (word_count sizes.now) }
     requires inside { from ≤ sizes.now.cells }
     ensures bounds { (from ≤ result) × (result ≤ sizes.now.cells) }
     ensures end { (words : List ℕ) → Agrees (A.reached access.new) words → RunEnd sizes.now.cells (cell_at sizes.now words) from result }
     ensures reads { A.reads access.old access.new }
-    ensures words { A.count access.new ≡ word_count sizes.now }
+    ensures words { A.spans access.new (word_count sizes.now) }
 {
     let mut end = from;
     while end < sizes.cells {
@@ -164,12 +164,12 @@ pub(crate) fn locate<A: ReadWords>(
     quotient: u64,
 ) -> Option<u64>
     requires region { IsRegion sizes.now }
-    requires words { A.count access.old ≡ word_count sizes.now }
+    requires words { A.spans access.old (word_count sizes.now) }
     requires inside { home < sizes.now.cells }
     ensures bounds { MatchOption result ⊤ (λ at. at < sizes.now.cells) }
     ensures found { (words : List ℕ) (keys : List Key) → Agrees (A.reached access.new) words → (k : Keeps sizes.now.cells (cell_at sizes.now words) keys) → Located result k.slots keys home quotient }
     ensures reads { A.reads access.old access.new }
-    ensures words { A.count access.new ≡ word_count sizes.now }
+    ensures words { A.spans access.new (word_count sizes.now) }
 {
     let here = read_cell(sizes, access, home);
     if !here.virgin {

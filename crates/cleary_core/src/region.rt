@@ -87,9 +87,10 @@ impl<const W: u32, const F: u32> Region<W, F> {
     /// It ends and stays within the region whatever it finds, also where the words are of no one moment and keep no map. What it
     /// reached decides its answer: whatever words agree with that and keep a map, the answer is true of that map.
     pub fn find_in<A: ReadWords>(&self, access: &mut A, home: u64, quotient: u64) -> bool
-        requires words { A.count access.old ≡ word_count self.now }
+        requires words { A.spans access.old (word_count self.now) }
         requires home { home < self.now.cells }
         ensures decided { Decides self.now (A.reached access.new) home quotient result }
+        ensures words { A.spans access.new (word_count self.now) }
         ensures reads { A.reads access.old access.new }
     {
         match locate(&self.sizes, access, home, quotient) {
@@ -119,14 +120,14 @@ impl<const W: u32, const F: u32> Region<W, F> {
         home: u64,
         quotient: u64,
     ) -> Result<bool, RegionFull>
-        requires words { length (A.words access.old) ≡ word_count self.now }
+        requires words { A.spans access.old (word_count self.now) }
         requires home { home < self.now.cells }
         requires quotient { quotient < 2 ^ self.now.quotient }
         requires kept { (keys : List Key) × KeepsMap self.now (A.words access.old) keys }
         ensures answer { (keys : List Key) → KeepsMap self.now (A.words access.old) keys → Answered result self.now keys home quotient (A.words access.new) }
         ensures kept { (keys : List Key) × KeepsMap self.now (A.words access.new) keys }
         ensures unchanged { MatchResult result (λ fresh. MatchBool fresh ⊤ (A.words access.new ≡ A.words access.old)) (λ _. A.words access.new ≡ A.words access.old) }
-        ensures length { length (A.words access.new) ≡ length (A.words access.old) }
+        ensures words { A.spans access.new (word_count self.now) }
         ensures writes { A.writes access.old access.new }
     {
         insert_key(&self.sizes, access, home, quotient)
@@ -143,9 +144,10 @@ impl<const W: u32, const F: u32> Region<W, F> {
 
     /// `flags` of words that are reached one at a time. As with `find_in`, what it reached decides the answer.
     pub fn flags_in<A: ReadWords>(&self, access: &mut A, home: u64, quotient: u64) -> u64
-        requires words { A.count access.old ≡ word_count self.now }
+        requires words { A.spans access.old (word_count self.now) }
         requires home { home < self.now.cells }
         ensures decided { DecidesFlags self.now (A.reached access.new) home quotient result }
+        ensures words { A.spans access.new (word_count self.now) }
         ensures reads { A.reads access.old access.new }
     {
         match locate(&self.sizes, access, home, quotient) {
@@ -168,13 +170,13 @@ impl<const W: u32, const F: u32> Region<W, F> {
 
     /// `set_flags` of words that are reached one at a time.
     pub fn set_flags_in<A: WriteWords>(&self, access: &mut A, home: u64, quotient: u64, value: u64)
-        requires words { length (A.words access.old) ≡ word_count self.now }
+        requires words { A.spans access.old (word_count self.now) }
         requires home { home < self.now.cells }
         requires value { value < 2 ^ self.now.flags }
         requires kept { (keys : List Key) × KeepsMap self.now (A.words access.old) keys }
         ensures flagged { (keys : List Key) → KeepsMap self.now (A.words access.old) keys → KeepsMap self.now (A.words access.new) (flagged home quotient value keys) }
         ensures kept { (keys : List Key) × KeepsMap self.now (A.words access.new) keys }
-        ensures length { length (A.words access.new) ≡ length (A.words access.old) }
+        ensures words { A.spans access.new (word_count self.now) }
         ensures writes { A.writes access.old access.new }
     {
         let Some(at) = locate(&self.sizes, access, home, quotient) else {

@@ -9,10 +9,12 @@ use packed_word::Bits;
 
 // The word at a place.
 #[inline]
-fn word_at<A: WriteWords>(access: &mut A, place: usize) -> u64
-    requires { place < length (A.words access.old) }
+fn word_at<A: WriteWords>(sizes: &Sizes, access: &mut A, place: usize) -> u64
+    requires words { A.spans access.old (word_count sizes.now) }
+    requires inside { place < word_count sizes.now }
     ensures value { slice_index (A.words access.old) place ≡ result }
-    ensures words { A.words access.new ≡ A.words access.old }
+    ensures same { A.words access.new ≡ A.words access.old }
+    ensures words { A.spans access.new (word_count sizes.now) }
     ensures writes { A.writes access.old access.new }
 {
     access.get(place)
@@ -20,10 +22,12 @@ fn word_at<A: WriteWords>(access: &mut A, place: usize) -> u64
 
 // Puts a word, if another stands there.
 #[inline]
-fn set_word<A: WriteWords>(access: &mut A, place: usize, had: u64, value: u64)
-    requires inside { place < length (A.words access.old) }
+fn set_word<A: WriteWords>(sizes: &Sizes, access: &mut A, place: usize, had: u64, value: u64)
+    requires words { A.spans access.old (word_count sizes.now) }
+    requires inside { place < word_count sizes.now }
     requires had { slice_index (A.words access.old) place ≡ had }
-    ensures words { A.words access.new ≡ slice_set (A.words access.old) place value }
+    ensures put { A.words access.new ≡ slice_set (A.words access.old) place value }
+    ensures words { A.spans access.new (word_count sizes.now) }
     ensures writes { A.writes access.old access.new }
 {
     if value != had {
@@ -35,11 +39,12 @@ fn set_word<A: WriteWords>(access: &mut A, place: usize, had: u64, value: u64)
 #[inline]
 pub(crate) fn own_cell<A: WriteWords>(sizes: &Sizes, access: &mut A, i: u64) -> Cell
     requires region { IsRegion sizes.now }
-    requires words { length (A.words access.old) ≡ word_count sizes.now }
+    requires words { A.spans access.old (word_count sizes.now) }
     requires inside { i < sizes.now.cells }
     ensures value { result ≡ cell_at sizes.now (A.words access.old) i }
     ensures small { Small sizes.now result }
-    ensures words { A.words access.new ≡ A.words access.old }
+    ensures same { A.words access.new ≡ A.words access.old }
+    ensures words { A.spans access.new (word_count sizes.now) }
     ensures writes { A.writes access.old access.new }
 {
     read_cell(sizes, access, i)
@@ -48,10 +53,10 @@ pub(crate) fn own_cell<A: WriteWords>(sizes: &Sizes, access: &mut A, i: u64) -> 
 // Writes a cell: of the one or two words that have it, those that change.
 pub(crate) fn write_cell<A: WriteWords>(sizes: &Sizes, access: &mut A, i: u64, cell: Cell)
     requires region { IsRegion sizes.now }
-    requires words { length (A.words access.old) ≡ word_count sizes.now }
+    requires words { A.spans access.old (word_count sizes.now) }
     requires inside { i < sizes.now.cells }
     requires small { Small sizes.now cell }
-    ensures words { length (A.words access.new) ≡ word_count sizes.now }
+    ensures words { A.spans access.new (word_count sizes.now) }
     ensures here { cell_at sizes.now (A.words access.new) i ≡ cell }
     ensures others { (j : ℕ) → j ≢ i → cell_at sizes.now (A.words access.new) j ≡ cell_at sizes.now (A.words access.old) j }
     ensures writes { A.writes access.old access.new }
@@ -61,18 +66,18 @@ pub(crate) fn write_cell<A: WriteWords>(sizes: &Sizes, access: &mut A, i: u64, c
     let place = (at / 64) as usize;
     let offset = at % 64;
     let number = pack(sizes, &cell);
-    let low = word_at(access, place);
+    let low = word_at(sizes, access, place);
     if offset + (bits as u64) <= 64 {
         let mut part = [low];
         Bits::put(&mut part, offset, bits, number);
-        set_word(access, place, low, part[0]);
+        set_word(sizes, access, place, low, part[0]);
         return;
     }
-    let high = word_at(access, place + 1);
+    let high = word_at(sizes, access, place + 1);
     let mut part = [low, high];
     Bits::put(&mut part, offset, bits, number);
-    set_word(access, place, low, part[0]);
-    set_word(access, place + 1, high, part[1]);
+    set_word(sizes, access, place, low, part[0]);
+    set_word(sizes, access, place + 1, high, part[1]);
 }
 
 // Writes a key into a cell, and marks its home.
@@ -85,10 +90,10 @@ pub(crate) fn put_key<A: WriteWords>(
     fresh: bool,
 )
     requires region { IsRegion sizes.now }
-    requires words { length (A.words access.old) ≡ word_count sizes.now }
+    requires words { A.spans access.old (word_count sizes.now) }
     requires inside { (place < sizes.now.cells) × (home < sizes.now.cells) }
     requires small { quotient < 2 ^ sizes.now.quotient }
-    ensures words { length (A.words access.new) ≡ word_count sizes.now }
+    ensures words { A.spans access.new (word_count sizes.now) }
     ensures put { Put (cell_at sizes.now (A.words access.old)) (cell_at sizes.now (A.words access.new)) place home quotient fresh }
     ensures writes { A.writes access.old access.new }
 {
@@ -116,9 +121,9 @@ pub(crate) fn put_key<A: WriteWords>(
 // Moves the keys from `place` up to `free` by one cell. The virgin marks stay.
 pub(crate) fn shift_up<A: WriteWords>(sizes: &Sizes, access: &mut A, place: u64, free: u64)
     requires region { IsRegion sizes.now }
-    requires words { length (A.words access.old) ≡ word_count sizes.now }
+    requires words { A.spans access.old (word_count sizes.now) }
     requires inside { (place ≤ free) × (free < sizes.now.cells) }
-    ensures words { length (A.words access.new) ≡ word_count sizes.now }
+    ensures words { A.spans access.new (word_count sizes.now) }
     ensures shifted { ShiftedUp (cell_at sizes.now (A.words access.old)) (cell_at sizes.now (A.words access.new)) place free }
     ensures writes { A.writes access.old access.new }
 {
@@ -143,9 +148,9 @@ pub(crate) fn shift_up<A: WriteWords>(sizes: &Sizes, access: &mut A, place: u64,
 // Moves the keys from `free` to `place` down by one cell. The virgin marks stay.
 pub(crate) fn shift_down<A: WriteWords>(sizes: &Sizes, access: &mut A, free: u64, place: u64)
     requires region { IsRegion sizes.now }
-    requires words { length (A.words access.old) ≡ word_count sizes.now }
+    requires words { A.spans access.old (word_count sizes.now) }
     requires inside { (free ≤ place) × (place < sizes.now.cells) }
-    ensures words { length (A.words access.new) ≡ word_count sizes.now }
+    ensures words { A.spans access.new (word_count sizes.now) }
     ensures shifted { ShiftedDown (cell_at sizes.now (A.words access.old)) (cell_at sizes.now (A.words access.new)) free place }
     ensures writes { A.writes access.old access.new }
 {

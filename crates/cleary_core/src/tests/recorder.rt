@@ -43,7 +43,7 @@ impl ReadWords for Recorder {
     ghost use Rattle.std.specs.Prelude.{◌≡◌, length, slice_index, refl};
     ghost use Rattle.std.proofs.Common.{◌∙◌, ap};
 
-    ghost count = { λ s. length s.words };
+    ghost spans = { λ s count. length s.words ≡ count };
 
     ghost reached = { λ s i m. slice_index s.words i ≡ m };
 
@@ -53,7 +53,7 @@ impl ReadWords for Recorder {
 
     ghost joins = { λ x y z p q. q ∙ p };
 
-    ghost keeps = { λ x y r. (ap (λ w. length w) r, λ i m h. ap (λ w. slice_index w i) r ∙ h) };
+    ghost keeps = { λ x y r. (λ count e. ap (λ w. length w) r ∙ e, λ i m h. ap (λ w. slice_index w i) r ∙ h) };
 
     fn get(&mut self, place: usize) -> u64 {
         self.reached |= 1 << place;
@@ -68,7 +68,7 @@ impl WriteWords for Recorder {
 
     ghost writes = { λ s t. Unit {0} };
 
-    ghost stands = { λ x. (refl, λ i m h. h) };
+    ghost stands = { λ x count e. (e, λ i m h. h) };
 
     ghost same = { λ x y r. (r, tt) };
 

@@ -1,7 +1,7 @@
 use Rattle.std.proofs.Common.{◌≡◌, ◌∷◌, ◌∙◌, ◌-◌, ℕ, Bool, List, not, false, true, refl, sym, ap, subst, arith}
 use Rattle.std.proofs.lemmas.Bool.{not-true, not-false}
 use Rattle.cleary_core.specs.Access.{Agrees}
-use Rattle.cleary_core.specs.Cells.{cell_at}
+use Rattle.cleary_core.specs.Cells.{cell_at, word_count}
 use Rattle.cleary_core.specs.declared.cells.Cell.{Cell}
 use Rattle.cleary_core.specs.Map.{Key, Keeps, KeepsMap}
 use Rattle.cleary_core.specs.Change.{Put}
@@ -18,7 +18,7 @@ returns-then-not-here-clause-answer g c = λ keys k.
     let new : ℕ → Cell = cell_at c.args.sizes.now (g.A.WriteWords.words c.put_key.new.access) in
     let same = (g.met.A.WriteWords.same c.args.access.now c.read_cell-here.new.access c.read_cell-here.ensures.reads).0 in
     let agrees : Agrees (g.A.ReadWords.reached c.read_cell-here.new.access) old_words
-    = subst (λ (w : List ℕ). Agrees (g.A.ReadWords.reached c.read_cell-here.new.access) w) same (g.met.A.WriteWords.stands c.read_cell-here.new.access).1 in
+    = subst (λ (w : List ℕ). Agrees (g.A.ReadWords.reached c.read_cell-here.new.access) w) same (g.met.A.WriteWords.stands c.read_cell-here.new.access (word_count c.args.sizes.now) c.read_cell-here.ensures.words).1 in
     let empty : (cell_at c.args.sizes.now (g.A.WriteWords.words c.args.access.now) c.args.home).occupied ≡ false
     = ap (λ (x : Cell). x.occupied) (c.read_cell-here.ensures.value old_words agrees) ∙ not-true c.read_cell-here.result.occupied c.if-not-here.true in
     let absent = none_at n old keys k c.args.home c.args.quotient c.requires.inside empty in (
@@ -41,7 +41,7 @@ returns-then-group_has-clause-answer g c = λ keys old.
     let front = c.run_front-front in
     let place = c.group_place-place in
     let has = c.group_has in
-    let agrees = (g.met.A.WriteWords.stands has.new.access).1 in
+    let agrees = (g.met.A.WriteWords.stands has.new.access (word_count c.args.sizes.now) has.ensures.words).1 in
     let agree = all_earlier (g.A.ReadWords.reached here.new.access) (g.A.ReadWords.reached front.new.access) (g.A.ReadWords.reached place.new.access) (g.A.ReadWords.reached has.new.access) words
     (g.met.A.ReadWords.keeps here.new.access front.new.access front.ensures.reads).1 (g.met.A.ReadWords.keeps front.new.access place.new.access place.ensures.reads).1
     (g.met.A.ReadWords.keeps place.new.access has.new.access has.ensures.reads).1 agrees in
@@ -58,7 +58,7 @@ add_key-requires-clause-gap g c = λ keys k.
     let front = c.run_front-front in
     let place = c.group_place-place in
     let has = c.group_has in
-    let agrees = (g.met.A.WriteWords.stands has.new.access).1 in
+    let agrees = (g.met.A.WriteWords.stands has.new.access (word_count c.args.sizes.now) has.ensures.words).1 in
     let agree = all_earlier (g.A.ReadWords.reached here.new.access) (g.A.ReadWords.reached front.new.access) (g.A.ReadWords.reached place.new.access) (g.A.ReadWords.reached has.new.access) words
     (g.met.A.ReadWords.keeps here.new.access front.new.access front.ensures.reads).1 (g.met.A.ReadWords.keeps front.new.access place.new.access place.ensures.reads).1
     (g.met.A.ReadWords.keeps place.new.access has.new.access has.ensures.reads).1 agrees in

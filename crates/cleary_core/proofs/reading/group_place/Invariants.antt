@@ -11,7 +11,7 @@ invariant-loop g l = record {
   low : l.start ≤ l.at;
   high : l.at ≤ l.sizes.cells;
   reads : g.A.ReadWords.reads l.initial.access l.access;
-  count : g.A.ReadWords.count l.access ≡ word_count l.sizes;
+  count : g.A.ReadWords.spans l.access (word_count l.sizes);
   passed : (words : List ℕ) (slots : Slots) (home : ℕ) → Agrees (g.A.ReadWords.reached l.access) words → InRun l.sizes.cells (cell_at l.sizes words) slots l.start home
       → l.groups ≡ virgins (cell_at l.sizes words) l.start (home - l.start) → Passed l.sizes.cells (cell_at l.sizes words) slots l.start l.at home (l.groups - l.counter);
 }

@@ -8,7 +8,7 @@ use Rattle.cleary_core.proofs.reading.read_cell.Goals as goal
 pub get-low-requires : goal.get-low-requires
 get-low-requires g c =
     let inside = cell_inside c.args.sizes.now c.args.i c.start_of-at.result c.requires.region c.requires.inside c.start_of-at.ensures.value in
-    omega (arith, c.requires.words)
+    (word_count c.args.sizes.now, c.requires.words, omega arith)
 
 pub unpack-requires-clause-small : goal.unpack-requires-clause-small
 unpack-requires-clause-small g c =
@@ -23,8 +23,7 @@ returns-then-offset-bits-le64-clause-value g c = λ words agrees.
 pub get-high-requires : goal.get-high-requires
 get-high-requires g c =
     let inside = cell_inside c.args.sizes.now c.args.i c.start_of-at.result c.requires.region c.requires.inside c.start_of-at.ensures.value in
-    let same = (g.met.A.ReadWords.keeps c.args.access.now c.get-low.new.self c.get-low.ensures.reads).0 in
-    omega (arith, c.requires.words, same, c.if-offset-bits-le64.false)
+    (word_count c.args.sizes.now, (g.met.A.ReadWords.keeps c.args.access.now c.get-low.new.self c.get-low.ensures.reads).0 (word_count c.args.sizes.now) c.requires.words, omega (arith, c.if-offset-bits-le64.false))
 
 pub unpack-requires-2-clause-small : goal.unpack-requires-2-clause-small
 unpack-requires-2-clause-small g c =

@@ -9,7 +9,7 @@ invariant-loop-end g l = record {
   low : l.from ≤ l.end;
   high : l.end ≤ l.sizes.cells;
   reads : g.A.ReadWords.reads l.initial.access l.access;
-  count : g.A.ReadWords.count l.access ≡ word_count l.sizes;
+  count : g.A.ReadWords.spans l.access (word_count l.sizes);
   row : (words : List ℕ) → Agrees (g.A.ReadWords.reached l.access) words → Row (cell_at l.sizes words) l.from l.end;
 }
 

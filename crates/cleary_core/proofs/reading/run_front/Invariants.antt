@@ -9,7 +9,7 @@ invariant-loop-start g l = record {
   low : l.start ≤ l.home;
   few : l.groups + l.start ≤ l.home;
   reads : g.A.ReadWords.reads l.initial.access l.access;
-  count : g.A.ReadWords.count l.access ≡ word_count l.sizes;
+  count : g.A.ReadWords.spans l.access (word_count l.sizes);
   row : (words : List ℕ) → Agrees (g.A.ReadWords.reached l.access) words → Row (cell_at l.sizes words) l.start l.home;
   groups : (words : List ℕ) → Agrees (g.A.ReadWords.reached l.access) words → l.groups ≡ virgins (cell_at l.sizes words) l.start (l.home - l.start);
 }

@@ -6,7 +6,7 @@ abbrev pub invariant-loop-at : goal.invariant-loop-at
 invariant-loop-at g l = record {
   low : l.free ≤ l.at;
   high : l.at ≤ l.place;
-  words : length (g.A.WriteWords.words l.access) ≡ word_count l.sizes;
+  words : g.A.ReadWords.spans l.access (word_count l.sizes);
   writes : g.A.WriteWords.writes l.fn.access l.access;
   there : l.there ≡ cell_at l.sizes (g.A.WriteWords.words l.access) l.at;
   below : (j : ℕ) → j < l.free → cell_at l.sizes (g.A.WriteWords.words l.access) j ≡ cell_at l.sizes (g.A.WriteWords.words l.fn.access) j;
