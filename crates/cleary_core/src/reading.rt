@@ -22,13 +22,13 @@ pub(crate) fn read_cell<A: ReadWords>(sizes: &Sizes, access: &mut A, i: u64) -> 
     let at = start_of(sizes, i);
     let bits = 3 + sizes.flags + sizes.quotient;
     let place = (at / 64) as usize;
-    let offset = at % 64;
+    let offset = (at % 64) as u32;
     let low = access.get(place);
-    if offset + (bits as u64) <= 64 {
-        return unpack(sizes, Bits::get(&[low], offset, bits));
+    if offset + bits <= 64 {
+        return unpack(sizes, Bits::get(&[low], offset as u64, bits));
     }
     let high = access.get(place + 1);
-    unpack(sizes, Bits::get(&[low, high], offset, bits))
+    unpack(sizes, Bits::get(&[low, high], offset as u64, bits))
 }
 
 // What stands before a home in its run.

@@ -47,6 +47,14 @@ impl<const W: u32, const F: u32> Region<W, F> {
         Region { sizes }
     }
 
+    /// How many words the region has.
+    pub fn words(&self) -> usize
+        ensures { result ≡ word_count self.now }
+    {
+        let sizes = self.sizes;
+        (sizes.cells / 64 * (3 + u64::from(sizes.flags) + u64::from(sizes.quotient))) as usize
+    }
+
     /// Cell `i`, which is below `2^s`.
     pub fn cell(&self, words: &[u64], i: u64) -> Cell
         requires words { length words.now ≡ word_count self.now }

@@ -64,18 +64,18 @@ pub(crate) fn write_cell<A: WriteWords>(sizes: &Sizes, access: &mut A, i: u64, c
     let at = start_of(sizes, i);
     let bits = 3 + sizes.flags + sizes.quotient;
     let place = (at / 64) as usize;
-    let offset = at % 64;
+    let offset = (at % 64) as u32;
     let number = pack(sizes, &cell);
     let low = word_at(sizes, access, place);
-    if offset + (bits as u64) <= 64 {
+    if offset + bits <= 64 {
         let mut part = [low];
-        Bits::put(&mut part, offset, bits, number);
+        Bits::put(&mut part, offset as u64, bits, number);
         set_word(sizes, access, place, low, part[0]);
         return;
     }
     let high = word_at(sizes, access, place + 1);
     let mut part = [low, high];
-    Bits::put(&mut part, offset, bits, number);
+    Bits::put(&mut part, offset as u64, bits, number);
     set_word(sizes, access, place, low, part[0]);
     set_word(sizes, access, place + 1, high, part[1]);
 }
