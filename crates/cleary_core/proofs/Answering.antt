@@ -1,5 +1,5 @@
 -- What `insert` answers.
-use Rattle.std.proofs.Common.{◌≡◌, ◌≢◌, ℕ, suc, ◌-◌, ◌<◌, ◌≤◌, max, ◌+◌, Bool, true, false, not, List, ◌∷◌, length, Some, None, Result, Ok, Err, refl, sym, ap, ◌∙◌, subst, ⊎_elim, arith}
+use Rattle.std.proofs.Common.{◌≡◌, ◌≢◌, ℕ, suc, ◌-◌, ◌<◌, ◌≤◌, max, ◌+◌, Bool, true, false, not, List, ◌∷◌, length, Some, None, refl, sym, ap, ◌∙◌, subst, ⊎_elim, arith}
 use Rattle.std.proofs.lemmas.Bool.{cases_lt, not-true}
 use Rattle.cleary_core.specs.declared.cells.Cell.{Cell}
 use Rattle.cleary_core.specs.Cells.{carried}

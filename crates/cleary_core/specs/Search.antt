@@ -1,5 +1,5 @@
 -- What the parts of a search find.
-use Rattle.std.specs.Prelude.{◌≡◌, ◌≢◌, ℕ, zero, suc, ◌+◌, ◌-◌, ◌<◌, ◌≤◌, Bool, true, false, List, Option, Some, None, MatchOption}
+use Rattle.std.specs.Prelude.{◌≡◌, ◌≢◌, ℕ, zero, suc, ◌+◌, ◌-◌, ◌<◌, ◌≤◌, true, false, List, Option, Some, MatchOption}
 use Rattle.cleary_core.specs.declared.cells.Cell.{Cell}
 use Rattle.cleary_core.specs.Cells.{mark_of}
 use Rattle.cleary_core.specs.Map.{Key, Slots, Taken, Laid, Drawn}

@@ -9,7 +9,7 @@ ghost use Rattle.cleary_core.specs.Search.{InRun, Placed};
 use crate::access::{ReadWords, WriteWords};
 use crate::cells::Sizes;
 use crate::reading::{group_place, group_seek, read_cell, run_end, run_front};
-use crate::writing::{put_key, shift_down, shift_up};
+use crate::writing::{put_alone, put_key, shift_down, shift_up};
 
 /// Every cell of the region is occupied by another key.
 #[derive(Clone, Copy, Debug, PartialEq, Eq)]
@@ -103,7 +103,7 @@ pub(crate) fn insert_key<A: WriteWords>(
 {
     let here = read_cell(sizes, access, home);
     if !here.occupied {
-        put_key(sizes, access, home, home, quotient, true);
+        put_alone(sizes, access, home, quotient);
         return Ok(true);
     }
     let front = run_front(sizes, access, home);

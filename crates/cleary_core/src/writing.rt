@@ -1,4 +1,4 @@
-ghost use Rattle.std.specs.Prelude.{◌≡◌, ◌≢◌, ℕ, suc, ◌+◌, ◌-◌, ◌*◌, ◌^◌, ◌<◌, ◌≤◌, length, slice_index, slice_set};
+ghost use Rattle.std.specs.Prelude.{◌≡◌, ◌≢◌, ℕ, suc, true, ◌+◌, ◌-◌, ◌*◌, ◌^◌, ◌<◌, ◌≤◌, length, slice_index, slice_set};
 ghost use Rattle.cleary_core.specs.Cells.{width, IsRegion, Small, cell_at, word_count, carried};
 ghost use Rattle.cleary_core.specs.Change.{Put, ShiftedUp, ShiftedDown};
 
@@ -78,6 +78,26 @@ pub(crate) fn write_cell<A: WriteWords>(sizes: &Sizes, access: &mut A, i: u64, c
     Bits::put(&mut part, offset as u64, bits, number);
     set_word(sizes, access, place, low, part[0]);
     set_word(sizes, access, place + 1, high, part[1]);
+}
+
+// Writes a key into its home, which is empty and then its group's only cell.
+pub(crate) fn put_alone<A: WriteWords>(sizes: &Sizes, access: &mut A, home: u64, quotient: u64)
+    requires region { IsRegion sizes.now }
+    requires words { A.spans access.old (word_count sizes.now) }
+    requires inside { home < sizes.now.cells }
+    requires small { quotient < 2 ^ sizes.now.quotient }
+    ensures words { A.spans access.new (word_count sizes.now) }
+    ensures put { Put (cell_at sizes.now (A.words access.old)) (cell_at sizes.now (A.words access.new)) home home quotient true }
+    ensures writes { A.writes access.old access.new }
+{
+    let cell = Cell {
+        occupied: true,
+        virgin: true,
+        change: true,
+        flags: 0,
+        quotient,
+    };
+    write_cell(sizes, access, home, cell);
 }
 
 // Writes a key into a cell, and marks its home.

@@ -1,11 +1,10 @@
-use Rattle.std.proofs.Common.{◌≡◌, ◌∷◌, ◌∙◌, ◌-◌, ◌+◌, ◌≤◌, ℕ, Bool, List, not, sym, ap, subst, arith}
+use Rattle.std.proofs.Common.{◌-◌, ℕ, Bool, List, sym, subst, arith}
 use Rattle.cleary_core.specs.Access.{Agrees}
 use Rattle.cleary_core.specs.Cells.{cell_at, word_count}
 use Rattle.cleary_core.specs.declared.cells.Cell.{Cell}
-use Rattle.cleary_core.specs.Map.{Keeps, KeepsMap}
+use Rattle.cleary_core.specs.Map.{KeepsMap}
 use Rattle.cleary_core.specs.Change.{Put, ShiftedUp, ShiftedDown}
-use Rattle.cleary_core.specs.Search.{RunEnd}
-use Rattle.cleary_core.proofs.Answering.{keeps_up, keeps_down, full, at_inside, row_on}
+use Rattle.cleary_core.proofs.Answering.{keeps_up, keeps_down, full, row_on}
 use Rattle.cleary_core.proofs.insertion.add_key.Goals as goal
 
 pub returns-then-end-sizes-clause-answer : goal.returns-then-end-sizes-clause-answer

@@ -1,4 +1,4 @@
-use Rattle.std.proofs.Common.{◌≡◌, ◌∙◌, ℕ, List, true, Some, None, subst, ap, arith}
+use Rattle.std.proofs.Common.{◌≡◌, ◌∙◌, ℕ, true, Some, None, arith}
 use Rattle.cleary_core.specs.Cells.{cell_at}
 use Rattle.cleary_core.proofs.Placing.{group_ends, searched, found_here}
 use Rattle.cleary_core.proofs.insertion.group_has.Goals as goal

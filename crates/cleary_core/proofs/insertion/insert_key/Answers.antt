@@ -1,9 +1,9 @@
-use Rattle.std.proofs.Common.{◌≡◌, ◌∷◌, ◌∙◌, ◌-◌, ℕ, Bool, List, not, false, true, refl, sym, ap, subst, arith}
+use Rattle.std.proofs.Common.{◌≡◌, ◌∙◌, ℕ, List, not, false, true, sym, ap, subst}
 use Rattle.std.proofs.lemmas.Bool.{not-true, not-false}
 use Rattle.cleary_core.specs.Access.{Agrees}
 use Rattle.cleary_core.specs.Cells.{cell_at, word_count}
 use Rattle.cleary_core.specs.declared.cells.Cell.{Cell}
-use Rattle.cleary_core.specs.Map.{Key, Keeps, KeepsMap}
+use Rattle.cleary_core.specs.Map.{KeepsMap}
 use Rattle.cleary_core.specs.Change.{Put}
 use Rattle.cleary_core.proofs.Answering.{keeps_still, none_at}
 use Rattle.cleary_core.proofs.Fronting.{found}
@@ -15,7 +15,7 @@ returns-then-not-here-clause-answer g c = λ keys k.
     let n : ℕ = c.args.sizes.now.cells in
     let old_words : List ℕ = g.A.WriteWords.words c.args.access.now in
     let old : ℕ → Cell = cell_at c.args.sizes.now (g.A.WriteWords.words c.args.access.now) in
-    let new : ℕ → Cell = cell_at c.args.sizes.now (g.A.WriteWords.words c.put_key.new.access) in
+    let new : ℕ → Cell = cell_at c.args.sizes.now (g.A.WriteWords.words c.put_alone.new.access) in
     let same = (g.met.A.WriteWords.same c.args.access.now c.read_cell-here.new.access c.read_cell-here.ensures.reads).0 in
     let agrees : Agrees (g.A.ReadWords.reached c.read_cell-here.new.access) old_words
     = subst (λ (w : List ℕ). Agrees (g.A.ReadWords.reached c.read_cell-here.new.access) w) same (g.met.A.WriteWords.stands c.read_cell-here.new.access (word_count c.args.sizes.now) c.read_cell-here.ensures.words).1 in
@@ -24,7 +24,7 @@ returns-then-not-here-clause-answer g c = λ keys k.
     let absent = none_at n old keys k c.args.home c.args.quotient c.requires.inside empty in (
       absent,
       keeps_still n old keys k c.args.home c.args.quotient c.requires.inside absent new empty
-          (subst (λ (w : List ℕ). Put (cell_at c.args.sizes.now w) new c.args.home c.args.home c.args.quotient true) same c.put_key.ensures.put),
+          (subst (λ (w : List ℕ). Put (cell_at c.args.sizes.now w) new c.args.home c.args.home c.args.quotient true) same c.put_alone.ensures.put),
     )
 
 pub returns-then-group_has-clause-answer : goal.returns-then-group_has-clause-answer

@@ -1,4 +1,4 @@
-use Rattle.std.proofs.Common.{◌≡◌, ◌∙◌, ℕ, List, true, ap, arith}
+use Rattle.std.proofs.Common.{◌≡◌, ◌∙◌, ℕ, true, ap, arith}
 use Rattle.std.proofs.lemmas.Bool.{not-false}
 use Rattle.cleary_core.specs.Access.{Agrees}
 use Rattle.cleary_core.specs.Cells.{cell_at}

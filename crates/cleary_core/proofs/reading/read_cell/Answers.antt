@@ -1,5 +1,4 @@
-use Rattle.std.proofs.Common.{◌≡◌, ◌<◌, ◌^◌, ◌*◌, ◌/◌, ◌%◌, ◌+◌, ◌≤◌, ◌∙◌, ℕ, [], ◌∷◌, List, sym, ap, subst, arith}
-use Rattle.packed_word.specs.Slice.{field}
+use Rattle.std.proofs.Common.{◌<◌, ◌^◌, ◌/◌, ◌%◌, ◌+◌, ◌∙◌, ℕ, [], ◌∷◌, sym, ap, subst, arith}
 use Rattle.packed_word.proofs.FieldBits.{field_below}
 use Rattle.cleary_core.specs.Cells.{width, word_count, unpacked}
 use Rattle.cleary_core.proofs.Packing.{cell_inside, in_one, in_two}

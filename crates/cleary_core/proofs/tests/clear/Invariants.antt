@@ -1,4 +1,4 @@
-use Rattle.std.proofs.Common.{◌≡◌, ℕ, ◌<◌, get_or, length}
+use Rattle.std.proofs.Common.{◌≡◌, ℕ, ◌<◌, get_or}
 use Rattle.cleary_core.proofs.tests.clear.Given as goal
 
 abbrev pub invariant-loop-word : goal.invariant-loop-word

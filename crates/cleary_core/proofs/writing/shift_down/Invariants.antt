@@ -1,5 +1,5 @@
-use Rattle.std.proofs.Common.{◌≡◌, ◌<◌, ◌≤◌, ◌-◌, ℕ, suc, length}
-use Rattle.cleary_core.specs.Cells.{cell_at, carried, word_count, Small}
+use Rattle.std.proofs.Common.{◌≡◌, ◌<◌, ◌≤◌, ◌-◌, ℕ, suc}
+use Rattle.cleary_core.specs.Cells.{cell_at, carried, word_count}
 use Rattle.cleary_core.proofs.writing.shift_down.Given as goal
 
 abbrev pub invariant-loop-at : goal.invariant-loop-at

@@ -1,5 +1,5 @@
-use Rattle.std.proofs.Common.{◌≡◌, ◌≢◌, ◌<◌, ◌/◌, ◌%◌, ◌+◌, ◌∙◌, ℕ, [], ◌∷◌, List, length, get_or, set, length-set, sym, ap, subst, arith}
-use Rattle.cleary_core.specs.Cells.{width, word_count}
+use Rattle.std.proofs.Common.{◌≡◌, ◌/◌, ◌+◌, ◌∙◌, ℕ, [], ◌∷◌, List, get_or, set, sym, ap, subst, arith}
+use Rattle.cleary_core.specs.Cells.{word_count}
 use Rattle.cleary_core.proofs.Packing.{cell_inside}
 use Rattle.cleary_core.proofs.Splicing.{Wrote, wrote_one, wrote_two}
 use Rattle.cleary_core.proofs.writing.write_cell.Goals as goal

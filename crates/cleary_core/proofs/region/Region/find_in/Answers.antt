@@ -1,4 +1,4 @@
-use Rattle.std.proofs.Common.{true, false, sym, subst}
+use Rattle.std.proofs.Common.{true, false, subst}
 use Rattle.cleary_core.specs.Answers.{Decides}
 use Rattle.cleary_core.specs.Cells.{cell_at}
 use Rattle.cleary_core.specs.declared.cells.Sizes.{Sizes}

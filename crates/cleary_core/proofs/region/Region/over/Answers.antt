@@ -1,6 +1,6 @@
 use Rattle.std.proofs.Common.{◌≡◌, ◌*◌, ◌-◌, ◌^◌, ◌+◌, ℕ, sym, subst, arith}
 use Rattle.std.proofs.lemmas.Nat.{one_shl}
-use Rattle.cleary_core.specs.Cells.{IsRegion, word_count, sizes_of}
+use Rattle.cleary_core.specs.Cells.{IsRegion, word_count}
 use Rattle.cleary_core.specs.declared.cells.Sizes.{Sizes}
 use Rattle.cleary_core.proofs.Packing.{region_of}
 use Rattle.cleary_core.proofs.region.Region.over.Goals as goal

@@ -1,4 +1,4 @@
-use Rattle.std.proofs.Common.{◌≡◌, ◌≢◌, ◌∙◌, ℕ, List, sym, ap, subst}
+use Rattle.std.proofs.Common.{◌≡◌, ◌∙◌, ℕ, List, sym, ap, subst}
 use Rattle.cleary_core.specs.Access.{Agrees}
 use Rattle.cleary_core.specs.Cells.{cell_at, word_count}
 use Rattle.cleary_core.specs.Answers.{flagged}
