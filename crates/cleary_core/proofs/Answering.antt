@@ -6,7 +6,7 @@ use Rattle.cleary_core.specs.Cells.{carried}
 use Rattle.cleary_core.specs.Map.{Key, Taken, Keeps}
 use Rattle.cleary_core.specs.Search.{InRun, RunEnd, Splits, Placed, Row}
 use Rattle.cleary_core.specs.Answers.{Present, new_key}
-use Rattle.cleary_core.specs.Change.{Put, ShiftedUp, ShiftedDown}
+use Rattle.cleary_core.specs.Change.{InOneRun, Put, ShiftedUp, ShiftedDown}
 use Rattle.cleary_core.proofs.Placing.{not_virgin}
 use Rattle.cleary_core.proofs.Slots.{cases_same, none_some, taken_of, none_of, count_full}
 use Rattle.cleary_core.proofs.Inserting.{Inserted, keeps_after, stays, from_left, from_right, moves_none, moves_right, moves_left}
@@ -132,3 +132,71 @@ row_on n cells keys k start place home from end run placed e stop = λ i a b. �
 -- an empty cell is the home of no key
 pub none_at : (n : ℕ) (cells : ℕ → Cell) (keys : List Key) (k : Keeps n cells keys) (home quotient : ℕ) → home < n → (cells home).occupied ≡ false → Present keys home quotient → ⊥
 none_at n cells keys k home quotient inside f = not_virgin n cells keys k home quotient (ap (λ (c : Cell). c.virgin) (k.drawn.empty home inside (none_of n k.slots k.laid cells k.drawn home f)))
+
+-- a cell that only its virgin mark could tell from another is this one where the marks are the same
+same_mark : (a b : Cell) → a ≡ carried a.virgin b → a.virgin ≡ b.virgin → a ≡ b
+same_mark a b e v = e ∙ ap (λ m. carried m b) v
+
+-- a cell away from the place and the home, put or moved
+same_off : (mid new : ℕ → Cell) (place home quotient : ℕ) (fresh : Bool) → Put mid new place home quotient fresh → (j : ℕ) → j ≢ place → j ≢ home → new j ≡ mid j
+same_off mid new place home quotient fresh put j a b = same_mark (new j) (mid j) (put.others j a) (put.unmarked j b)
+
+-- a moved cell is occupied where its key's cell was
+occupied_from : (old mid new : ℕ → Cell) (place home quotient j from : ℕ) (fresh v : Bool) → Put mid new place home quotient fresh → j ≢ place → mid j ≡ carried v (old from) → (old from).occupied ≡ true → (new j).occupied ≡ true
+occupied_from old mid new place home quotient j from fresh v put ne e t = ap (λ (c : Cell). c.occupied) (put.others j ne) ∙ ap (λ (c : Cell). c.occupied) e ∙ t
+
+pub near_alone : (n : ℕ) (old new : ℕ → Cell) (home quotient : ℕ) → home < n → Put old new home home quotient true → InOneRun n old new home
+near_alone n old new home quotient inside put = record {
+  low = home;
+  high = suc home;
+  span = (omega arith, omega arith, inside);
+  row = λ i a b. ap (λ m. (new m).occupied) (omega arith) ∙ ap (λ (c : Cell). c.occupied) put.here;
+  others = λ j away. ⊎_elim
+      (λ (less : j < home). same_off old new home home quotient true put j (λ e. omega arith) (λ e. omega arith))
+      (λ (past : suc home ≤ j). same_off old new home home quotient true put j (λ e. omega arith) (λ e. omega arith))
+      away;
+}
+
+pub near_still : (n : ℕ) (cells : ℕ → Cell) (home : ℕ) → home < n → (cells home).occupied ≡ true → InOneRun n cells cells home
+near_still n cells home inside t = record {
+  low = home;
+  high = suc home;
+  span = (omega arith, omega arith, inside);
+  row = λ i a b. ap (λ m. (cells m).occupied) (omega arith) ∙ t;
+  others = λ j away. refl;
+}
+
+module _ (n : ℕ) (old mid new : ℕ → Cell) (start place home end quotient : ℕ) (fresh : Bool) (low : start ≤ home) (from : start ≤ place) (front : Row old start (suc home)) (back : Row old home end) (over : home < end) where
+  whole : (i : ℕ) → start ≤ i → i < end → (old i).occupied ≡ true
+  whole i a b = ⊎_elim (λ (less : i < home). front i a (omega arith)) (λ (past : home ≤ i). back i past b) (cases_lt i home)
+
+  pub near_up : place ≤ end → end < n → ShiftedUp old mid place end → Put mid new place home quotient fresh → InOneRun n old new home
+  near_up most inside shift put = record {
+    low = start;
+    high = suc end;
+    span = (low, omega arith, inside);
+    row = λ i a b. ⊎_elim
+        (λ (same : i ≡ place). ap (λ m. (new m).occupied) same ∙ ap (λ (c : Cell). c.occupied) put.here)
+        (λ (ne : i ≢ place). occupied_from old mid new place home quotient i (from_left place end i) fresh (old i).virgin put ne (up_at old mid place end shift most i ne) (whole (from_left place end i) (omega arith) (omega arith)))
+        (cases_same i place);
+    others = λ j away. ⊎_elim
+        (λ (less : j < start). same_off mid new place home quotient fresh put j (λ e. omega arith) (λ e. omega arith) ∙ shift.below j (omega arith))
+        (λ (past : suc end ≤ j). same_off mid new place home quotient fresh put j (λ e. omega arith) (λ e. omega arith) ∙ shift.above j past)
+        away;
+  }
+
+  pub near_down : 0 < start → place ≤ end → end ≡ n → ShiftedDown old mid (start - 1) (place - 1) → Put mid new (place - 1) home quotient fresh → InOneRun n old new home
+  near_down some most is shift put = record {
+    low = start - 1;
+    high = end;
+    span = (omega arith, over, omega arith);
+    row = λ i a b. ⊎_elim
+        (λ (same : i ≡ place - 1). ap (λ m. (new m).occupied) same ∙ ap (λ (c : Cell). c.occupied) put.here)
+        (λ (ne : i ≢ place - 1). occupied_from old mid new (place - 1) home quotient i (from_right (start - 1) (place - 1) i) fresh (old i).virgin put ne (down_at old mid (start - 1) (place - 1) shift (omega arith) i ne)
+        (whole (from_right (start - 1) (place - 1) i) (omega arith) (omega arith)))
+        (cases_same i (place - 1));
+    others = λ j away. ⊎_elim
+        (λ (less : j < start - 1). same_off mid new (place - 1) home quotient fresh put j (λ e. omega arith) (λ e. omega arith) ∙ shift.below j less)
+        (λ (past : end ≤ j). same_off mid new (place - 1) home quotient fresh put j (λ e. omega arith) (λ e. omega arith) ∙ shift.above j (omega arith))
+        away;
+  }

@@ -1,10 +1,10 @@
 -- What an insertion does to the cells.
-use Rattle.std.specs.Prelude.{◌≡◌, ◌≢◌, ℕ, suc, ◌<◌, ◌≤◌, Bool, true, not, List}
+use Rattle.std.specs.Prelude.{◌≡◌, ◌≢◌, ◌⊎◌, ℕ, suc, ◌<◌, ◌≤◌, Bool, true, not, List}
 use Rattle.cleary_core.specs.declared.cells.Cell.{Cell}
 use Rattle.cleary_core.specs.Answers.{Present}
 use Rattle.cleary_core.specs.Cells.{carried}
 use Rattle.cleary_core.specs.Map.{Key, Slots}
-use Rattle.cleary_core.specs.Search.{InRun, Placed}
+use Rattle.cleary_core.specs.Search.{InRun, Placed, Row}
 
 -- one key put into a cell whose virgin bit stays, and its home marked
 pub record Put (old new : ℕ → Cell) (place home quotient : ℕ) (fresh : Bool) : Type 0 where
@@ -31,3 +31,11 @@ pub record Belongs (n : ℕ) (cells : ℕ → Cell) (slots : Slots) (keys : List
   pub placed : Placed n slots start place home
   pub absent : Present keys home quotient → ⊥
   pub first : fresh ≡ not (cells home).virgin
+
+-- only cells of the home's run change: those from `low` up to `high`, which are occupied afterwards
+pub record InOneRun (n : ℕ) (old new : ℕ → Cell) (home : ℕ) : Type 0 where
+  pub low : ℕ
+  pub high : ℕ
+  pub span : (low ≤ home) × (home < high) × (high ≤ n)
+  pub row : Row new low high
+  pub others : (j : ℕ) → (j < low) ⊎ (high ≤ j) → new j ≡ old j

@@ -2,7 +2,7 @@ ghost use Rattle.std.specs.Prelude.{◌≡◌, ℕ, ◌+◌, ◌-◌, ◌^◌, �
 ghost use Rattle.cleary_core.specs.Access.{Agrees};
 ghost use Rattle.cleary_core.specs.Answers.{Tells, Answered};
 ghost use Rattle.cleary_core.specs.Cells.{IsRegion, cell_at, word_count};
-ghost use Rattle.cleary_core.specs.Change.{Belongs};
+ghost use Rattle.cleary_core.specs.Change.{Belongs, InOneRun};
 ghost use Rattle.cleary_core.specs.Map.{Key, Keeps, KeepsMap};
 ghost use Rattle.cleary_core.specs.Search.{InRun, Placed};
 
@@ -67,6 +67,7 @@ fn add_key<A: WriteWords>(
         → Belongs sizes.now.cells (cell_at sizes.now (A.words access.old)) k.slots keys gap.now.start gap.now.place home quotient gap.now.fresh }
     ensures answer { (keys : List Key) → KeepsMap sizes.now (A.words access.old) keys → Answered result sizes.now keys home quotient (A.words access.new) }
     ensures unchanged { MatchResult result (λ fresh. MatchBool fresh ⊤ (A.words access.new ≡ A.words access.old)) (λ _. A.words access.new ≡ A.words access.old) }
+    ensures near { InOneRun sizes.now.cells (cell_at sizes.now (A.words access.old)) (cell_at sizes.now (A.words access.new)) home }
     ensures words { A.spans access.new (word_count sizes.now) }
     ensures writes { A.writes access.old access.new }
 {
@@ -98,6 +99,7 @@ pub(crate) fn insert_key<A: WriteWords>(
     requires kept { (keys : List Key) × KeepsMap sizes.now (A.words access.old) keys }
     ensures answer { (keys : List Key) → KeepsMap sizes.now (A.words access.old) keys → Answered result sizes.now keys home quotient (A.words access.new) }
     ensures unchanged { MatchResult result (λ fresh. MatchBool fresh ⊤ (A.words access.new ≡ A.words access.old)) (λ _. A.words access.new ≡ A.words access.old) }
+    ensures near { InOneRun sizes.now.cells (cell_at sizes.now (A.words access.old)) (cell_at sizes.now (A.words access.new)) home }
     ensures words { A.spans access.new (word_count sizes.now) }
     ensures writes { A.writes access.old access.new }
 {

@@ -2,6 +2,7 @@ ghost use Rattle.std.specs.Prelude.{◌≡◌, ℕ, ◌+◌, ◌-◌, ◌*◌, �
 ghost use Rattle.cleary_core.specs.Access.{Agrees};
 ghost use Rattle.cleary_core.specs.Answers.{Tells, TellsFlags, Decides, DecidesFlags, Answered, flagged};
 ghost use Rattle.cleary_core.specs.Cells.{IsRegion, cell_at, sizes_of, word_count};
+ghost use Rattle.cleary_core.specs.Change.{InOneRun};
 ghost use Rattle.cleary_core.specs.Map.{Key, KeepsMap};
 
 use crate::access::{ReadWords, SliceReader, SliceWriter, WriteWords};
@@ -115,6 +116,7 @@ impl<const W: u32, const F: u32> Region<W, F> {
         requires quotient { quotient < 2 ^ self.now.quotient }
         requires kept { (keys : List Key) × KeepsMap self.now words.old keys }
         ensures answer { (keys : List Key) → KeepsMap self.now words.old keys → Answered result self.now keys home quotient words.new }
+        ensures near { InOneRun self.now.cells (cell_at self.now words.old) (cell_at self.now words.new) home }
         ensures kept { (keys : List Key) × KeepsMap self.now words.new keys }
         ensures unchanged { MatchResult result (λ fresh. MatchBool fresh ⊤ (words.new ≡ words.old)) (λ _. words.new ≡ words.old) }
     {
@@ -133,6 +135,7 @@ impl<const W: u32, const F: u32> Region<W, F> {
         requires quotient { quotient < 2 ^ self.now.quotient }
         requires kept { (keys : List Key) × KeepsMap self.now (A.words access.old) keys }
         ensures answer { (keys : List Key) → KeepsMap self.now (A.words access.old) keys → Answered result self.now keys home quotient (A.words access.new) }
+        ensures near { InOneRun self.now.cells (cell_at self.now (A.words access.old)) (cell_at self.now (A.words access.new)) home }
         ensures kept { (keys : List Key) × KeepsMap self.now (A.words access.new) keys }
         ensures unchanged { MatchResult result (λ fresh. MatchBool fresh ⊤ (A.words access.new ≡ A.words access.old)) (λ _. A.words access.new ≡ A.words access.old) }
         ensures words { A.spans access.new (word_count self.now) }
