@@ -1,7 +1,9 @@
 -- What the parts of a search find.
 use Rattle.std.specs.Prelude.{◌≡◌, ◌≢◌, ℕ, zero, suc, ◌+◌, ◌-◌, ◌<◌, ◌≤◌, true, false, List, Option, Some, MatchOption}
 use Rattle.cleary_core.specs.declared.cells.Cell.{Cell}
-use Rattle.cleary_core.specs.Cells.{mark_of}
+use Rattle.cleary_core.specs.declared.cells.Sizes.{Sizes}
+use Rattle.cleary_core.specs.Access.{Agrees, Reaches}
+use Rattle.cleary_core.specs.Cells.{mark_of, cell_at}
 use Rattle.cleary_core.specs.Map.{Key, Slots, Taken, Laid, Drawn}
 use Rattle.cleary_core.specs.Answers.{Present}
 
@@ -66,3 +68,18 @@ Searched found n cells at quotient = MatchOption found
 abbrev pub Located : Option ℕ → (slots : Slots) → List Key → ℕ → ℕ → Type 0
 Located found slots keys home quotient = MatchOption found (Present keys home quotient → ⊥)
     (λ i. (k : Key) × (slots i ≡ Some k) × (k.home ≡ home) × (k.quotient ≡ quotient))
+
+-- what a search for a key of `home` found stands in words of the home's run, and of the cell on either side of it
+pub record ReachesRun (before after : ℕ → ℕ → Type 0) (z : Sizes) (cells : ℕ → Cell) (home : ℕ) : Type 0 where
+  pub low : ℕ
+  pub high : ℕ
+  pub span : (low ≤ home) × (home ≤ high) × (high ≤ z.cells)
+  pub row : Row cells low high
+  pub reach : Reaches before after z (low - 1) (suc high)
+
+-- what a search for a quotient from `from` on found stands in words of the cells from there up to some, before the last of which none has change
+pub record ReachesGroup (before after : ℕ → ℕ → Type 0) (z : Sizes) (from : ℕ) : Type 0 where
+  pub high : ℕ
+  pub span : (from ≤ high) × (high ≤ z.cells)
+  pub row : (words : List ℕ) → Agrees after words → Unbroken (cell_at z words) from (high - 1)
+  pub reach : Reaches before after z from high

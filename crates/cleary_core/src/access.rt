@@ -1,4 +1,4 @@
-ghost use Rattle.std.specs.Prelude.{◌≡◌, ℕ, ◌<◌, List, length, slice_index, slice_set};
+ghost use Rattle.std.specs.Prelude.{◌≡◌, ◌⊎◌, ℕ, ◌<◌, List, length, slice_index, slice_set};
 ghost use Rattle.cleary_core.specs.Access.{Agrees};
 
 /// The words of a region as they are reached, one at a time.
@@ -19,6 +19,7 @@ pub trait ReadWords {
     fn get(&mut self, place: usize) -> u64
         requires { (count : ℕ) × spans self.old count × (place < count) }
         ensures found { reached self.new place result }
+        ensures only { (i m : ℕ) → reached self.new i m → reached self.old i m ⊎ (i ≡ place) }
         ensures reads { reads self.old self.new };
 
     // To read nothing is to read, and to read on is.

@@ -36,6 +36,7 @@ fn group_has<A: ReadWords>(
 ) -> bool
     requires region { IsRegion sizes.now }
     requires words { A.spans access.old (word_count sizes.now) }
+    requires inside { place ≤ sizes.now.cells }
     ensures tells { (words : List ℕ) (keys : List Key) (start home : ℕ) → Agrees (A.reached access.new) words → (k : Keeps sizes.now.cells (cell_at sizes.now words) keys)
         → InRun sizes.now.cells (cell_at sizes.now words) k.slots start home → Placed sizes.now.cells k.slots start place home → (cell_at sizes.now words home).virgin ≡ virgin → Tells result keys home quotient }
     ensures reads { A.reads access.old access.new }

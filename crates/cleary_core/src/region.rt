@@ -4,6 +4,7 @@ ghost use Rattle.cleary_core.specs.Answers.{Tells, TellsFlags, Decides, DecidesF
 ghost use Rattle.cleary_core.specs.Cells.{IsRegion, cell_at, sizes_of, word_count};
 ghost use Rattle.cleary_core.specs.Change.{InOneRun};
 ghost use Rattle.cleary_core.specs.Map.{Key, KeepsMap};
+ghost use Rattle.cleary_core.specs.Search.{ReachesRun};
 
 use crate::access::{ReadWords, SliceReader, SliceWriter, WriteWords};
 use crate::cells::{Cell, Sizes};
@@ -99,6 +100,8 @@ impl<const W: u32, const F: u32> Region<W, F> {
         requires words { A.spans access.old (word_count self.now) }
         requires home { home < self.now.cells }
         ensures decided { Decides self.now (A.reached access.new) home quotient result }
+        ensures near { (words : List ℕ) (keys : List Key) → length words ≡ word_count self.now → Agrees (A.reached access.new) words → KeepsMap self.now words keys
+            → ReachesRun (A.reached access.old) (A.reached access.new) self.now (cell_at self.now words) home }
         ensures words { A.spans access.new (word_count self.now) }
         ensures reads { A.reads access.old access.new }
     {

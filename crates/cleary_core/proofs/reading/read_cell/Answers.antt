@@ -1,4 +1,5 @@
-use Rattle.std.proofs.Common.{◌<◌, ◌^◌, ◌/◌, ◌%◌, ◌+◌, ◌∙◌, ℕ, [], ◌∷◌, sym, ap, subst, arith}
+use Rattle.cleary_core.proofs.Reaching.{first_word, second_word}
+use Rattle.std.proofs.Common.{inl, inr, ⊎_elim, ◌<◌, ◌^◌, ◌/◌, ◌%◌, ◌+◌, ◌∙◌, ℕ, [], ◌∷◌, sym, ap, subst, arith, ◌≡◌, ◌-◌, ◌≤◌}
 use Rattle.packed_word.proofs.FieldBits.{field_below}
 use Rattle.cleary_core.specs.Cells.{width, word_count, unpacked}
 use Rattle.cleary_core.proofs.Packing.{cell_inside, in_one, in_two}
@@ -34,3 +35,18 @@ returns-clause-value g c = λ words agrees.
     (agrees (c.start_of-at.result / 64) c.get-low.result ((g.met.A.ReadWords.keeps c.get-low.new.self c.get-high.new.self c.get-high.ensures.reads).1 (c.start_of-at.result / 64) c.get-low.result c.get-low.ensures.found))
     (agrees (c.start_of-at.result / 64 + 1) c.get-high.result c.get-high.ensures.found)
     ∙ ap (λ n. unpacked c.args.sizes.now n) (sym c.get-2.ensures) ∙ sym c.unpack-2.ensures.value
+
+pub returns-then-offset-bits-le64-clause-near : goal.returns-then-offset-bits-le64-clause-near
+returns-then-offset-bits-le64-clause-near g c = λ i m found. ⊎_elim
+    (λ (old : g.A.ReadWords.reached c.args.access.now i m). inl old)
+    (λ (there : i ≡ c.start_of-at.result / 64). inr (first_word c.args.sizes.now c.args.i c.start_of-at.result i c.start_of-at.ensures.value there))
+    (c.get-low.ensures.only i m found)
+
+pub returns-clause-near : goal.returns-clause-near
+returns-clause-near g c = λ i m found. ⊎_elim
+    (λ (low : g.A.ReadWords.reached c.get-low.new.self i m). ⊎_elim
+    (λ (old : g.A.ReadWords.reached c.args.access.now i m). inl old)
+    (λ (there : i ≡ c.start_of-at.result / 64). inr (first_word c.args.sizes.now c.args.i c.start_of-at.result i c.start_of-at.ensures.value there))
+    (c.get-low.ensures.only i m low))
+    (λ (there : i ≡ c.start_of-at.result / 64 + 1). inr (second_word c.args.sizes.now c.args.i c.start_of-at.result i c.start_of-at.ensures.value there (omega (arith, c.if-offset-bits-le64.false))))
+    (c.get-high.ensures.only i m found)
