@@ -1,0 +1,43 @@
+-- What agrees with all that was found agrees with what was found before.
+use Rattle.std.proofs.Common.{◌≡◌, ◌⊎◌, ℕ, suc, ◌+◌, ◌*◌, ◌/◌, ◌%◌, ◌<◌, ◌≤◌, List, inl, inr, ⊎_elim, arith, sym}
+use Rattle.std.proofs.Math.Nat.{mul-le-mul_right}
+use Rattle.cleary_core.specs.declared.cells.Sizes.{Sizes}
+use Rattle.cleary_core.specs.Access.{Agrees, HasCells, Reaches}
+use Rattle.cleary_core.specs.Cells.{width}
+
+pub earlier : (before after : ℕ → ℕ → Type 0) (words : List ℕ) → ((i m : ℕ) → before i m → after i m) → Agrees after words → Agrees before words
+earlier before after words more agrees = λ i m h. agrees i m (more i m h)
+
+-- the same along three readings
+pub all_earlier : (first second third last : ℕ → ℕ → Type 0) (words : List ℕ) → ((i m : ℕ) → first i m → second i m) → ((i m : ℕ) → second i m → third i m) → ((i m : ℕ) → third i m → last i m) → Agrees last words
+    → Agrees first words × Agrees second words × Agrees third words
+all_earlier first second third last words a b c agrees =
+    let on_third : Agrees third words = earlier third last words c agrees in
+    let on_second : Agrees second words = earlier second third words b on_third in
+    (earlier first second words a on_second, on_second, on_third)
+
+-- more cells have the words of fewer
+pub widen : (before after : ℕ → ℕ → Type 0) (z : Sizes) (low high less more : ℕ) → less ≤ low → high ≤ more → Reaches before after z low high → Reaches before after z less more
+widen before after z low high less more a b reach = λ i m found. ⊎_elim
+    (λ (old : before i m). inl old)
+    (λ (there : HasCells z low high i).
+    let c : less * width z ≤ low * width z = mul-le-mul_right (width z) a in
+    let d : high * width z ≤ more * width z = mul-le-mul_right (width z) b in
+    let e = there.0 in
+    let f = there.1 in
+    inr (omega arith, omega arith))
+    (reach i m found)
+
+-- one reading after another
+pub onward : (first second third : ℕ → ℕ → Type 0) (z : Sizes) (low high : ℕ) → Reaches first second z low high → Reaches second third z low high → Reaches first third z low high
+onward first second third z low high a b = λ i m found. ⊎_elim (λ (old : second i m). a i m old) (λ (there : HasCells z low high i). inr there) (b i m found)
+
+pub nowhere : (reached : ℕ → ℕ → Type 0) (z : Sizes) (low high : ℕ) → Reaches reached reached z low high
+nowhere reached z low high = λ i m found. inl found
+
+-- the words of one cell
+pub first_word : (z : Sizes) (i at p : ℕ) → at ≡ i * width z → p ≡ at / 64 → HasCells z i (suc i) p
+first_word z i at p e f = let g : suc i * width z ≡ i * width z + width z = omega arith in (omega arith, omega arith)
+
+pub second_word : (z : Sizes) (i at p : ℕ) → at ≡ i * width z → p ≡ at / 64 + 1 → 64 < at % 64 + width z → HasCells z i (suc i) p
+second_word z i at p e f h = let g : suc i * width z ≡ i * width z + width z = omega arith in (omega arith, omega arith)

@@ -1,0 +1,21 @@
+use Rattle.std.proofs.Common.{◌≡◌, ◌∙◌, ℕ, true, Some, None, arith}
+use Rattle.cleary_core.specs.Cells.{cell_at}
+use Rattle.cleary_core.proofs.Placing.{group_ends, searched, found_here}
+use Rattle.cleary_core.proofs.insertion.group_has.Goals as goal
+
+pub returns-in-Some-clause-tells : goal.returns-in-Some-clause-tells
+returns-in-Some-clause-tells g c = λ words keys start home agrees k run placed is.
+    let n : ℕ = c.args.sizes.now.cells in
+    let cells : ℕ → _ = cell_at c.args.sizes.now words in
+    let virgin : (cell_at c.args.sizes.now words home).virgin ≡ true = is ∙ c.if-not-virgin.false in
+    let ends = group_ends n k.slots k.laid cells k.drawn start c.args.place home home placed (omega arith) run.inside.1 run.row virgin in
+    found_here n cells keys k home c.args.quotient c.in-Some.field-0
+    (searched n cells keys k home c.args.quotient (Some c.in-Some.field-0) start c.args.place run.inside.1 placed run.row virgin (c.in-Some.ensures.sought words agrees ends))
+
+pub returns-in-None-clause-tells : goal.returns-in-None-clause-tells
+returns-in-None-clause-tells g c = λ words keys start home agrees k run placed is.
+    let n : ℕ = c.args.sizes.now.cells in
+    let cells : ℕ → _ = cell_at c.args.sizes.now words in
+    let virgin : (cell_at c.args.sizes.now words home).virgin ≡ true = is ∙ c.if-not-virgin.false in
+    let ends = group_ends n k.slots k.laid cells k.drawn start c.args.place home home placed (omega arith) run.inside.1 run.row virgin in
+    searched n cells keys k home c.args.quotient None start c.args.place run.inside.1 placed run.row virgin (c.in-None.ensures.sought words agrees ends)

@@ -1,0 +1,52 @@
+use Rattle.cleary_core.proofs.Reaching.{first_word, second_word}
+use Rattle.std.proofs.Common.{inl, inr, ⊎_elim, ◌<◌, ◌^◌, ◌/◌, ◌%◌, ◌+◌, ◌∙◌, ℕ, [], ◌∷◌, sym, ap, subst, arith, ◌≡◌, ◌-◌, ◌≤◌}
+use Rattle.packed_word.proofs.FieldBits.{field_below}
+use Rattle.cleary_core.specs.Cells.{width, word_count, unpacked}
+use Rattle.cleary_core.proofs.Packing.{cell_inside, in_one, in_two}
+use Rattle.cleary_core.proofs.reading.read_cell.Goals as goal
+
+pub get-low-requires : goal.get-low-requires
+get-low-requires g c =
+    let inside = cell_inside c.args.sizes.now c.args.i c.start_of-at.result c.requires.region c.requires.inside c.start_of-at.ensures.value in
+    (word_count c.args.sizes.now, c.requires.words, omega arith)
+
+pub unpack-requires-clause-small : goal.unpack-requires-clause-small
+unpack-requires-clause-small g c =
+    subst (λ (n : ℕ). n < 2 ^ width c.args.sizes.now) (sym c.get.ensures) (field_below (c.get-low.result ∷ []) (c.start_of-at.result % 64) (width c.args.sizes.now))
+
+pub returns-then-offset-bits-le64-clause-value : goal.returns-then-offset-bits-le64-clause-value
+returns-then-offset-bits-le64-clause-value g c = λ words agrees.
+    in_one c.args.sizes.now words c.args.i c.start_of-at.result c.get-low.result c.start_of-at.ensures.value c.if-offset-bits-le64.true
+    (agrees (c.start_of-at.result / 64) c.get-low.result c.get-low.ensures.found)
+    ∙ ap (λ n. unpacked c.args.sizes.now n) (sym c.get.ensures) ∙ sym c.unpack.ensures.value
+
+pub get-high-requires : goal.get-high-requires
+get-high-requires g c =
+    let inside = cell_inside c.args.sizes.now c.args.i c.start_of-at.result c.requires.region c.requires.inside c.start_of-at.ensures.value in
+    (word_count c.args.sizes.now, (g.met.A.ReadWords.keeps c.args.access.now c.get-low.new.self c.get-low.ensures.reads).0 (word_count c.args.sizes.now) c.requires.words, omega (arith, c.if-offset-bits-le64.false))
+
+pub unpack-requires-2-clause-small : goal.unpack-requires-2-clause-small
+unpack-requires-2-clause-small g c =
+    subst (λ (n : ℕ). n < 2 ^ width c.args.sizes.now) (sym c.get-2.ensures) (field_below (c.get-low.result ∷ c.get-high.result ∷ []) (c.start_of-at.result % 64) (width c.args.sizes.now))
+
+pub returns-clause-value : goal.returns-clause-value
+returns-clause-value g c = λ words agrees.
+    in_two c.args.sizes.now words c.args.i c.start_of-at.result c.get-low.result c.get-high.result c.start_of-at.ensures.value (omega (arith, c.requires.region.few))
+    (agrees (c.start_of-at.result / 64) c.get-low.result ((g.met.A.ReadWords.keeps c.get-low.new.self c.get-high.new.self c.get-high.ensures.reads).1 (c.start_of-at.result / 64) c.get-low.result c.get-low.ensures.found))
+    (agrees (c.start_of-at.result / 64 + 1) c.get-high.result c.get-high.ensures.found)
+    ∙ ap (λ n. unpacked c.args.sizes.now n) (sym c.get-2.ensures) ∙ sym c.unpack-2.ensures.value
+
+pub returns-then-offset-bits-le64-clause-near : goal.returns-then-offset-bits-le64-clause-near
+returns-then-offset-bits-le64-clause-near g c = λ i m found. ⊎_elim
+    (λ (old : g.A.ReadWords.reached c.args.access.now i m). inl old)
+    (λ (there : i ≡ c.start_of-at.result / 64). inr (first_word c.args.sizes.now c.args.i c.start_of-at.result i c.start_of-at.ensures.value there))
+    (c.get-low.ensures.only i m found)
+
+pub returns-clause-near : goal.returns-clause-near
+returns-clause-near g c = λ i m found. ⊎_elim
+    (λ (low : g.A.ReadWords.reached c.get-low.new.self i m). ⊎_elim
+    (λ (old : g.A.ReadWords.reached c.args.access.now i m). inl old)
+    (λ (there : i ≡ c.start_of-at.result / 64). inr (first_word c.args.sizes.now c.args.i c.start_of-at.result i c.start_of-at.ensures.value there))
+    (c.get-low.ensures.only i m low))
+    (λ (there : i ≡ c.start_of-at.result / 64 + 1). inr (second_word c.args.sizes.now c.args.i c.start_of-at.result i c.start_of-at.ensures.value there (omega (arith, c.if-offset-bits-le64.false))))
+    (c.get-high.ensures.only i m found)

@@ -1,0 +1,5 @@
+use Rattle.std.proofs.Common.{◌∙◌, get_or, sym, ap}
+use Rattle.cleary_core.proofs.region.Region.flags.Goals as goal
+
+pub returns : goal.returns
+returns g c = λ keys k. c.flags_in.ensures.decided c.args.words.now keys c.requires.words (λ i m h. ap (λ s. get_or s.words.now i 0) (sym c.flags_in.ensures.reads) ∙ h) k

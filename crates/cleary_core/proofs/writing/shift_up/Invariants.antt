@@ -1,0 +1,18 @@
+use Rattle.std.proofs.Common.{◌≡◌, ◌<◌, ◌≤◌, ℕ, suc}
+use Rattle.cleary_core.specs.Cells.{cell_at, carried, word_count}
+use Rattle.cleary_core.proofs.writing.shift_up.Given as goal
+
+abbrev pub invariant-loop-at : goal.invariant-loop-at
+invariant-loop-at g l = record {
+  low : l.place ≤ l.at;
+  high : l.at ≤ l.free;
+  words : g.A.ReadWords.spans l.access (word_count l.sizes);
+  writes : g.A.WriteWords.writes l.fn.access l.access;
+  here : l.here ≡ cell_at l.sizes (g.A.WriteWords.words l.access) l.at;
+  below : (j : ℕ) → j ≤ l.at → cell_at l.sizes (g.A.WriteWords.words l.access) j ≡ cell_at l.sizes (g.A.WriteWords.words l.fn.access) j;
+  moved : (j : ℕ) → l.at ≤ j → j < l.free → cell_at l.sizes (g.A.WriteWords.words l.access) (suc j) ≡ carried (cell_at l.sizes (g.A.WriteWords.words l.fn.access) (suc j)).virgin (cell_at l.sizes (g.A.WriteWords.words l.fn.access) j);
+  above : (j : ℕ) → l.free < j → cell_at l.sizes (g.A.WriteWords.words l.access) j ≡ cell_at l.sizes (g.A.WriteWords.words l.fn.access) j;
+}
+
+abbrev pub decreases-loop-at : goal.decreases-loop-at
+decreases-loop-at g l = l.at

@@ -1,0 +1,82 @@
+ghost use Rattle.std.specs.Prelude.{◌≡◌, ◌+◌, ◌*◌, ◌^◌, ◌<◌, ◌≤◌};
+ghost use Rattle.cleary_core.specs.Cells.{width, Small, mark_of, packed, unpacked};
+
+/// The sizes of a region: how many cells it has, and the widths of a cell's flags and quotient in bits.
+#[derive(Clone, Copy)]
+pub struct Sizes {
+    pub cells: u64,
+    pub flags: u32,
+    pub quotient: u32,
+}
+
+/// One cell. `virgin` says that some key has this cell as its home, `change` that this cell is the last of its group; the
+/// others belong to the key that stands here.
+#[derive(Clone, Copy)]
+pub struct Cell {
+    pub occupied: bool,
+    pub virgin: bool,
+    pub change: bool,
+    pub flags: u64,
+    pub quotient: u64,
+}
+
+// The first bit of a cell.
+#[inline]
+pub(crate) fn start_of(sizes: &Sizes, i: u64) -> u64
+    requires { (sizes.now.flags + sizes.now.quotient ≤ 60) × (i < 4096) }
+    ensures value { result ≡ i * width sizes.now }
+    ensures small { result < 2 ^ 31 }
+{
+    i * (3 + (sizes.flags as u64) + (sizes.quotient as u64))
+}
+
+// The cell that is written as this number.
+#[inline]
+pub(crate) fn unpack(sizes: &Sizes, word: u64) -> Cell
+    requires few { sizes.now.flags + sizes.now.quotient ≤ 60 }
+    requires small { word < 2 ^ width sizes.now }
+    ensures value { result ≡ unpacked sizes.now word }
+    ensures small { Small sizes.now result }
+{
+    let rest = word / 8;
+    Cell {
+        occupied: word % 2 == 1,
+        virgin: word / 2 % 2 == 1,
+        change: word / 4 % 2 == 1,
+        flags: rest & ((1u64 << sizes.flags) - 1),
+        quotient: rest >> sizes.flags,
+    }
+}
+
+// A mark as a number.
+#[inline]
+pub(crate) fn mark(set: bool) -> u64
+    ensures value { result ≡ mark_of set }
+    ensures small { result < 2 }
+{
+    if set { 1 } else { 0 }
+}
+
+// The quotient and the flags as one number.
+#[inline]
+fn join(sizes: &Sizes, flags: u64, quotient: u64) -> u64
+    requires few { sizes.now.flags + sizes.now.quotient ≤ 60 }
+    requires small { (flags < 2 ^ sizes.now.flags) × (quotient < 2 ^ sizes.now.quotient) }
+    ensures value { result ≡ quotient * 2 ^ sizes.now.flags + flags }
+    ensures small { result < 2 ^ (sizes.now.flags + sizes.now.quotient) }
+    ensures room { result < 2 ^ 60 }
+{
+    (quotient << sizes.flags) | flags
+}
+
+// The number that a cell is written as.
+#[inline]
+pub(crate) fn pack(sizes: &Sizes, cell: &Cell) -> u64
+    requires few { sizes.now.flags + sizes.now.quotient ≤ 60 }
+    requires small { Small sizes.now cell.now }
+    ensures value { result ≡ packed sizes.now cell.now }
+    ensures small { result < 2 ^ width sizes.now }
+{
+    let rest = join(sizes, cell.flags, cell.quotient);
+    mark(cell.occupied) + 2 * (mark(cell.virgin) + 2 * (mark(cell.change) + 2 * rest))
+}
