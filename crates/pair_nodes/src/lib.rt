@@ -1,6 +1,11 @@
-//! Pairs that each stand once in the shared table: find or put a node.
+//! Pairs that each stand once in the shared table: find or put a node, without a lock (after Laarman, van de Pol and Weber 2010).
 #![tactic(auto)]
 
 mod nodes;
+mod probe;
+mod steps;
 
-pub use nodes::Nodes;
+pub use nodes::{Nodes, NodesFull};
+
+#[cfg(test)]
+mod tests;

@@ -1,9 +1,10 @@
 -- What a table is about, and what the laws of a table without roots rest on.
-use Rattle.std.specs.Prelude.{◌≡◌, ℕ, ◌<◌, ◌≤◌, ◌^◌, [], ◌∷◌, ◌++◌}
+use Rattle.std.specs.Prelude.{◌≡◌, ℕ, ◌<◌, ◌≤◌, ◌^◌, List, [], ◌∷◌, ◌++◌}
 use Rattle.std.proofs.Common.{refl, sym, ◌∙◌}
 use Rattle.tdb_base.specs.History.{History}
 use Rattle.tdb_base.specs.Legal.{Extends}
 use Rattle.packed_word.specs.Word.{IsLayout}
+use Rattle.pair_rule.specs.declared.view.View.{View}
 use Rattle.pair_rule.specs.declared.sizes.Sizes.{Sizes}
 use Rattle.pair_rule.specs.declared.sizes.About.{About}
 
@@ -26,6 +27,16 @@ pub record IsAbout (width flags : ℕ) (sized : Sizes → Type 0) (count : Sizes
   pub flags_are : about.flags ≡ flags
   pub root_words_are : about.root_words ≡ count about.sizes
   pub root_words_small : about.root_words < 2 ^ 32
+
+-- of a table without roots: there are no root pairs, nothing is asked of how they lie, and nobody called
+abbrev pub no_roots : About → History → Unit {0} → List (ℕ × ℕ)
+no_roots about h t = []
+
+abbrev pub no_house : About → List (ℕ × ℕ) → Type 0
+no_house about map = Unit {0}
+
+abbrev pub NobodyCalled : About → View (Unit {0}) → Type 0
+NobodyCalled about v = v.seen ≡ []
 
 nothing_before : (h more : History) → [] ≡ h ++ more → h ≡ []
 nothing_before [] more e = refl

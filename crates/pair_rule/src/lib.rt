@@ -21,3 +21,6 @@ pub use rule::NodeRule;
 pub use sizes::{About, Sizes};
 pub use table::PairTable;
 pub use view::{Old, View};
+
+#[cfg(test)]
+mod tests;

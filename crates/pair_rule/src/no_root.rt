@@ -6,7 +6,7 @@ pub struct NoRoot;
 
 impl<const W: u32, const F: u32> RootPart<W, F> for NoRoot {
     ghost use Rattle.std.specs.Prelude.{◌≡◌, [], refl};
-    ghost use Rattle.pair_rule.specs.Laws.{nothing_seen};
+    ghost use Rattle.pair_rule.specs.Laws.{no_roots, no_house, NobodyCalled, nothing_seen};
 
     type View = ();
 
@@ -20,11 +20,11 @@ impl<const W: u32, const F: u32> RootPart<W, F> for NoRoot {
 
     ghost spent = { tt };
 
-    ghost roots = { λ about h t. [] };
+    ghost roots = { no_roots };
 
-    ghost house = { λ about map. Unit {0} };
+    ghost house = { no_house };
 
-    ghost told = { λ about v. v.seen ≡ [] };
+    ghost told = { NobodyCalled };
 
     ghost sized = { λ sizes. Unit {0} };
 

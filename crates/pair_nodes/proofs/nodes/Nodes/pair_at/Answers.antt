@@ -1,0 +1,36 @@
+use Rattle.std.proofs.Common.{arith, ◌≡◌, ◌≢◌, ◌+◌, ◌*◌, ◌-◌, ◌/◌, ◌%◌, ◌^◌, ◌<◌, sym, subst, ap, refl, ◌∙◌, ℕ, ⊎_elim, div-add-mod'}
+use Rattle.tree_shape.specs.Tree.{Has}
+use Rattle.packed_word.specs.Word.{pair_of, left_of, right_of, word_of}
+use Rattle.pair_rule.specs.declared.sizes.About.{About}
+use Rattle.pair_rule.specs.View.{node_word}
+use Rattle.pair_rule.specs.Paths.{node_buckets, size, IsPair}
+use Rattle.pair_nodes.specs.Probe.{pair_of_word}
+use Rattle.pair_nodes.proofs.Views.{probed_learned, shown_more}
+use Rattle.pair_nodes.proofs.Lines.{load_found, pair_of_parts}
+use Rattle.pair_nodes.proofs.nodes.Nodes.pair_at.Goals as goal
+
+pub look-word-requires : goal.look-word-requires
+look-word-requires g c =
+    let inside = (c.requires.rest.seat.sound.nodes.inside c.args.index c.requires.known.0 c.requires.known.1).0 in
+    (omega arith, (c.requires.rest, subst (λ (a : About). c.args.index < size (node_buckets a)) c.requires.rest.seat.about_is inside))
+
+pub returns-clause-pair : goal.returns-clause-pair
+returns-clause-pair g c =
+    let about = c.args.self.now.table.about in
+    let e = c.look-word.ensures in
+    let n = c.look-word.result in
+    let v = c.args.pass.now.seat.me.0 in
+    let w = c.look-word.new.pass.seat.me.0 in
+    let x = c.requires.known.0 in
+    let used : n ≢ 0 = λ z. e.free z x c.requires.known.1 in
+    let here = load_found about v w c.args.index n e.view e.word used in
+    let old = subst (λ u. Has (c.args.index, x) u.known) (sym e.view) (shown_more about c.args.index n v.probes v.probing v e.word c.args.index x c.requires.known.1) in
+    let same : x ≡ pair_of_word n = e.rest.seat.sound.nodes.naming.one_pair c.args.index x (pair_of_word n) old here in
+    let word : n ≡ node_word x = ⊎_elim (λ (z : n ≡ 0). absurd (used z)) (λ (t : (y : ℕ) × (n ≡ node_word y) × IsPair (node_buckets about) y). let a = t.1 in omega (arith, same, a)) e.word in
+    let inside = (c.requires.rest.seat.sound.nodes.inside c.args.index x c.requires.known.1).1 in
+    let small : x < 2 ^ (2 * g.row.W) = subst (λ (w : ℕ). x < 2 ^ (2 * w)) (ap (λ (a : About). a.width) c.requires.rest.seat.about_is ∙ c.args.self.now.table.width) inside in
+    let parts : pair_of g.row.W c.left.result c.right.result ≡ x = pair_of_parts g.row.W n x c.left.result c.right.result c.args.self.now.table.layout.1 word small c.left.ensures c.right.ensures in
+    subst (λ (y : ℕ). Has (c.args.index, y) v.known) (sym parts) c.requires.known.1
+
+pub returns-clause-puts_none : goal.returns-clause-puts_none
+returns-clause-puts_none g c = let e = c.look-word.ensures in probed_learned c.args.self.now.table.about c.args.index c.look-word.result c.args.pass.now.seat.me.0 c.look-word.new.pass.seat.me.0 e.word e.view

@@ -1,0 +1,241 @@
+//! Answers worked out outside, and many callers at once.
+ghost use Rattle.std.specs.Prelude.{◌≡◌, ◌≤◌, ◌^◌, All, IfOk};
+ghost use Rattle.pair_rule.specs.Laws.{InRange, no_roots, no_house, NobodyCalled};
+ghost use Rattle.pair_rule.specs.Rest.{AtRest};
+
+use super::{Nodes, NodesFull};
+use pair_rule::{NoRoot, PairTable, Pass, PassOf, RootPart, Sizes};
+use std::alloc::Global;
+use std::process::Abort;
+use std::test::Fail;
+use std::thread;
+use std::thread::Threads;
+use tdb_base::{Kept, NoMemory, Silent, Steps};
+
+// All lines of a path are walked.
+const SIZES_OF_8: Sizes = Sizes {
+    nodes: 3,
+    roots: 3,
+    region: 6,
+    probe: 4194304,
+};
+
+const SIZES_OF_64: Sizes = Sizes {
+    nodes: 6,
+    roots: 3,
+    region: 6,
+    probe: 4194304,
+};
+
+// Puts so many of the pairs (0, 0) to (0, 11), from one of them on and around, and keeps the answers.
+fn put_pairs<R: RootPart<W, F>, const W: u32, const F: u32>(
+    nodes: &Nodes<R, W, F>,
+    pass: &mut Pass<R, W, F>,
+    begins: u64,
+    count: u64,
+    answers: &mut [Option<u64>; 12],
+)
+    requires rest { AtRest R.roots R.house R.told nodes.now.table.table.shared.table_id nodes.now.table.about pass.old }
+    requires wide { 12 ≤ 2 ^ W }
+    ensures { AtRest R.roots R.house R.told nodes.now.table.table.shared.table_id nodes.now.table.about pass.new }
+{
+    let count = count.min(12).max(1);
+    let mut steps = Steps::new(Silent);
+    for turn in 0..count {
+        let right = (begins % 12 + turn) % count;
+        answers[right as usize] = nodes.find_or_put(pass, 0, right, &mut steps).ok();
+    }
+}
+
+// A caller's pass, from which of the pairs on it puts them, and what it was answered for each.
+#[derive(Drop)]
+struct Caller<T> {
+    pass: PassOf<T>,
+    begins: u64,
+    answers: [Option<u64>; 12],
+}
+
+// All callers put so many pairs, each in a thread of its own.
+fn put_at_once<H: Threads + Sync>(
+    rt: &H,
+    nodes: &Nodes<NoRoot, 16, 8>,
+    callers: &mut [Caller<()>],
+    pairs: u64,
+)
+    requires { All (λ c. AtRest no_roots no_house NobodyCalled nodes.now.table.table.shared.table_id nodes.now.table.about c.pass) callers.old }
+    ensures { All (λ c. AtRest no_roots no_house NobodyCalled nodes.now.table.table.shared.table_id nodes.now.table.about c.pass) callers.new }
+{
+    let count = callers.len();
+    if count > 0 {
+        thread::for_each_mut(
+            rt,
+            callers,
+            count,
+            &|_, caller: &mut Caller<()>|
+                requires { AtRest no_roots no_house NobodyCalled nodes.now.table.table.shared.table_id nodes.now.table.about caller.now.pass }
+                ensures { AtRest no_roots no_house NobodyCalled nodes.entry.now.table.table.shared.table_id nodes.entry.now.table.about caller.exit.now.pass }
+            {
+                put_pairs::<NoRoot, 16, 8>(
+                    nodes,
+                    &mut caller.pass,
+                    caller.begins,
+                    pairs,
+                    &mut caller.answers,
+                );
+            },
+        );
+    }
+}
+
+// As many callers as asked for, each with a pass of its own.
+fn split_callers(
+    alloc: Global,
+    nodes: &Nodes<NoRoot, 16, 8>,
+    pass: &mut Pass<NoRoot, 16, 8>,
+    count: u64,
+) -> Result<Vec<Caller<()>>, NoMemory>
+    requires { AtRest no_roots no_house NobodyCalled nodes.now.table.table.shared.table_id nodes.now.table.about pass.old }
+    ensures rest { AtRest no_roots no_house NobodyCalled nodes.now.table.table.shared.table_id nodes.now.table.about pass.new }
+    ensures callers { IfOk result (λ v. All (λ c. AtRest no_roots no_house NobodyCalled nodes.now.table.table.shared.table_id nodes.now.table.about c.pass) v.items) }
+{
+    let table = &nodes.table;
+    let mut callers = Vec::new(alloc);
+    for number in 0..count {
+        let pass = table.split(alloc, pass)?;
+        callers.push(Caller {
+            pass,
+            begins: 5 * (number % 12),
+            answers: [None; 12],
+        })?;
+    }
+    Ok(callers)
+}
+
+// Whether all callers were answered alike, and different pairs differently; and how many pairs have an index.
+fn alike(callers: &[Caller<()>]) -> Option<u64> {
+    let first = callers.get(0)?;
+    let mut found = 0u64;
+    for (i, answer) in first.answers.iter().enumerate() {
+        for caller in callers {
+            if caller.answers[i] != *answer {
+                return None;
+            }
+        }
+        if answer.is_some() {
+            found = u64::saturating_add(found, 1);
+            for j in 0..i {
+                if first.answers[j] == *answer {
+                    return None;
+                }
+            }
+        }
+    }
+    Some(found)
+}
+
+#[test]
+fn finds_what_it_put(rt: HostRuntime) -> Result<(), Fail> {
+    let (table, mut pass) = PairTable::<NoRoot, 16, 8>::create(rt.alloc(), &SIZES_OF_64, 4)?;
+    let nodes = Nodes::over(table);
+    let mut steps = Steps::new(Silent);
+    assert!(rt; nodes.find_or_put(&mut pass, 0, 1, &mut steps) == Ok(59));
+    let Ok(index) = nodes.find_or_put(&mut pass, 0, 1, &mut steps) else {
+        panic!(rt; "full")
+    };
+    assert!(rt; index == 59 && pass.nodes_count == 1);
+    assert!(rt; nodes.pair_at(&mut pass, index) == (0, 1));
+    Ok(())
+}
+
+#[test]
+fn fills_up(rt: HostRuntime) -> Result<(), Fail> {
+    let (table, mut pass) = PairTable::<NoRoot, 16, 8>::create(rt.alloc(), &SIZES_OF_8, 4)?;
+    let nodes = Nodes::over(table);
+    let mut caller = Caller {
+        pass,
+        begins: 0,
+        answers: [None; 12],
+    };
+    put_pairs::<NoRoot, 16, 8>(&nodes, &mut caller.pass, 0, 12, &mut caller.answers);
+    for (i, answer) in caller.answers.iter().enumerate() {
+        assert!(rt; answer.is_some() == (i < 8));
+    }
+    let pass = &caller.pass;
+    assert!(rt; pass.nodes_count == 8);
+    let callers = [caller];
+    assert!(rt; alike(&callers) == Some(8));
+    Ok(())
+}
+
+#[test]
+fn ticks_when_full(rt: HostRuntime) -> Result<(), Fail> {
+    let (table, mut pass) = PairTable::<NoRoot, 16, 8>::create(rt.alloc(), &SIZES_OF_8, 4)?;
+    let nodes = Nodes::over(table);
+    let mut answers = [None; 12];
+    put_pairs::<NoRoot, 16, 8>(&nodes, &mut pass, 0, 12, &mut answers);
+    let mut steps = Steps::new(Kept { shown: 0 });
+    assert!(rt; nodes.find_or_put(&mut pass, 0, 8, &mut steps).is_err());
+    assert!(rt; steps.shown() == 1);
+    assert!(rt; nodes.find_or_put(&mut pass, 0, 7, &mut steps) == answers[7].ok_or(NodesFull));
+    assert!(rt; steps.shown() == 2);
+    Ok(())
+}
+
+// So many callers put so many pairs at once into a table of these sizes: all are answered alike, and the table has as many pairs as it has room for.
+fn compare<H: Threads + Abort + Sync>(
+    rt: &H,
+    alloc: Global,
+    sizes: &Sizes,
+    count: u64,
+    pairs: u64,
+    room: u64,
+) -> Result<(), Fail>
+    requires { InRange 16 8 (λ s. Unit {0}) sizes.now 4 }
+{
+    let (table, mut pass) = PairTable::<NoRoot, 16, 8>::create(alloc, sizes, 4)?;
+    let nodes = Nodes::over(table);
+    let mut callers = split_callers(alloc, &nodes, &mut pass, count)?;
+    put_at_once(rt, &nodes, callers.as_mut_slice(), pairs);
+    assert!(rt; alike(callers.as_slice()) == Some(room));
+    let made = join_callers(&nodes, &mut pass, callers);
+    assert!(rt; made == room);
+    Ok(())
+}
+
+// All callers are joined; answers how many nodes they put.
+fn join_callers(
+    nodes: &Nodes<NoRoot, 16, 8>,
+    pass: &mut Pass<NoRoot, 16, 8>,
+    callers: Vec<Caller<()>>,
+) -> u64
+    requires rest { AtRest no_roots no_house NobodyCalled nodes.now.table.table.shared.table_id nodes.now.table.about pass.old }
+    requires callers { All (λ c. AtRest no_roots no_house NobodyCalled nodes.now.table.table.shared.table_id nodes.now.table.about c.pass) callers.items }
+{
+    for caller in callers {
+        let Caller { pass: other, .. } = caller;
+        nodes.table().join(pass, other);
+    }
+    pass.nodes_count
+}
+
+#[test]
+fn two_to_eight_threads(rt: HostRuntime) -> Result<(), Fail> {
+    for count in [2, 4, 8] {
+        compare(&rt, rt.alloc(), &SIZES_OF_64, count, 12, 12)?;
+        compare(&rt, rt.alloc(), &SIZES_OF_8, count, 12, 8)?;
+    }
+    Ok(())
+}
+
+#[test]
+fn two_threads_put_one_pair(rt: HostRuntime) -> Result<(), Fail> {
+    let (table, mut pass) = PairTable::<NoRoot, 16, 8>::create(rt.alloc(), &SIZES_OF_64, 4)?;
+    let nodes = Nodes::over(table);
+    let mut callers = split_callers(rt.alloc(), &nodes, &mut pass, 2)?;
+    put_at_once(&rt, &nodes, callers.as_mut_slice(), 2);
+    for caller in &callers {
+        assert!(rt; caller.answers[0] == Some(0) && caller.answers[1] == Some(59));
+    }
+    assert!(rt; join_callers(&nodes, &mut pass, callers) == 2);
+    Ok(())
+}
