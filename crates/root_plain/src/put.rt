@@ -90,6 +90,7 @@ fn visit<const W: u32, const F: u32>(
 }
 
 // Visits the buckets of one line of the pair's path.
+#[inline]
 fn walk_line<const W: u32, const F: u32>(
     table: &PairTable<PlainRoot<W, F>, W, F>,
     pass: &mut Pass<PlainRoot<W, F>, W, F>,
@@ -116,6 +117,7 @@ fn walk_line<const W: u32, const F: u32>(
 }
 
 // Visits the buckets of the pair's path, line by line.
+#[inline]
 fn walk_path<const W: u32, const F: u32>(
     table: &PairTable<PlainRoot<W, F>, W, F>,
     pass: &mut Pass<PlainRoot<W, F>, W, F>,

@@ -93,7 +93,11 @@ fn put_three(
     store: &Store,
     pass: &mut StorePass,
     first: u64,
-) -> (Option<(u64, bool)>, Option<(u64, bool)>, Option<(u64, bool)>)
+) -> (
+    Option<(u64, bool)>,
+    Option<(u64, bool)>,
+    Option<(u64, bool)>,
+)
     requires slots { store.now.table.about.slots ≡ 2 }
     requires rest { Rests store.now.table.table.shared.table_id store.now.table.about pass.old }
     requires small { first < 2 ^ 15 }
@@ -120,7 +124,14 @@ fn two_threads_agree(rt: HostRuntime) -> Result<(), Fail> {
     let mut second = store.table().split(rt.alloc(), &mut first)?;
     let (one, two) = thread::join(
         &rt,
-        || -> ((Option<(u64, bool)>, Option<(u64, bool)>, Option<(u64, bool)>), StorePass)
+        || -> (
+            (
+                Option<(u64, bool)>,
+                Option<(u64, bool)>,
+                Option<(u64, bool)>,
+            ),
+            StorePass,
+        )
             requires slots { store.table.about.slots ≡ 2 }
             requires rest { Rests store.table.table.shared.table_id store.table.about first }
             ensures { Rests store.table.table.shared.table_id store.table.about result.1 }
@@ -128,7 +139,14 @@ fn two_threads_agree(rt: HostRuntime) -> Result<(), Fail> {
             let found = put_three(&store, &mut first, 1);
             (found, first)
         },
-        || -> ((Option<(u64, bool)>, Option<(u64, bool)>, Option<(u64, bool)>), StorePass)
+        || -> (
+            (
+                Option<(u64, bool)>,
+                Option<(u64, bool)>,
+                Option<(u64, bool)>,
+            ),
+            StorePass,
+        )
             requires slots { store.table.about.slots ≡ 2 }
             requires rest { Rests store.table.table.shared.table_id store.table.about second }
             ensures { Rests store.table.table.shared.table_id store.table.about result.1 }

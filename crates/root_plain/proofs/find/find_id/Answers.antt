@@ -1,9 +1,7 @@
-use Rattle.std.proofs.Common.{arith, refl, subst, sym, ap, ◌∙◌, ◌≡◌, ◌≤◌, ◌^◌, ◌<◌, ℕ, ⊎_elim}
+use Rattle.std.proofs.Common.{arith, subst, sym, ap, ◌∙◌, ◌≤◌, ◌^◌, ◌<◌, ⊎_elim}
 use Rattle.std.proofs.lemmas.Bool.{cases_lt}
-use Rattle.packed_word.specs.Word.{pair_of, left_of, right_of}
 use Rattle.pair_rule.specs.declared.sizes.Sizes.{Sizes}
 use Rattle.pair_rule.specs.Rest.{view}
-use Rattle.root_plain.specs.Plays.{Called}
 use Rattle.root_plain.proofs.RootPasses.{plain_about}
 use Rattle.root_plain.proofs.Probing.{caught_still, no_bucket, bucket_of_id, shows_each}
 use Rattle.root_plain.proofs.find.find_id.Goals as goal

@@ -1,7 +1,7 @@
 use Rattle.std.proofs.Common.{arith, refl, subst, sym, ap, ◌∙◌, ◌≡◌, ◌+◌, ◌*◌, ◌<◌, ℕ}
 use Rattle.packed_word.specs.Word.{pair_of}
 use Rattle.probe_path.specs.Path.{Course, Progress, walked_lines}
-use Rattle.pair_rule.specs.Paths.{root_buckets, reach, Passed, Listed}
+use Rattle.pair_rule.specs.Paths.{root_buckets, Passed, Listed}
 use Rattle.pair_rule.specs.Rest.{view}
 use Rattle.root_plain.specs.Probe.{Along, Passes}
 use Rattle.root_plain.proofs.Probing.{called_then, some_more, passes_none, passes_then, along_path, buffers_then}
@@ -28,11 +28,31 @@ walk_line-requires g c =
     let about = c.args.table.now.about in
     let pair = pair_of g.row.W c.args.left c.args.right in
     let i = c.loop-line.invariant in
-    let lt : c.loop-line.walk.passed < c.loop-line.walk.course.lines = omega (arith, i.line, i.end, c.loop-line-test.true) in
-    (omega arith, (omega arith, (omega arith, (i.rest, (c.requires.parts, (i.along, (lt, (
-      subst (λ (n : ℕ). Passed (root_buckets about) (Listed (view c.loop-line.pass).root.roots) pair (8 * n)) (sym i.line) i.passes.passed,
-      some_more about pair (view c.args.pass.now) (view c.loop-line.pass) i.passes.caught c.requires.stands,
-    ))))))))
+    let lt : c.loop-line.walk.passed < c.loop-line.walk.course.lines = omega (arith, i.line, i.end, c.loop-line-test.true) in (
+      omega arith,
+      (
+        omega arith,
+        (
+          omega arith,
+          (
+            i.rest,
+            (
+              c.requires.parts,
+              (
+                i.along,
+                (
+                  lt,
+                  (
+                    subst (λ (n : ℕ). Passed (root_buckets about) (Listed (view c.loop-line.pass).root.roots) pair (8 * n)) (sym i.line) i.passes.passed,
+                    some_more about pair (view c.args.pass.now) (view c.loop-line.pass) i.passes.caught c.requires.stands,
+                  ),
+                ),
+              ),
+            ),
+          ),
+        ),
+      ),
+    )
 
 pub returns-in-Some-clause-told : goal.returns-in-Some-clause-told
 returns-in-Some-clause-told g c =

@@ -1,4 +1,4 @@
-use Rattle.std.proofs.Common.{arith, refl}
+use Rattle.std.proofs.Common.{arith}
 use Rattle.pair_rule.specs.Rest.{view}
 use Rattle.root_plain.proofs.PassLaws.{call_named}
 use Rattle.root_plain.proofs.TwoSlots.{two_slots}
