@@ -11,12 +11,14 @@ pub loop-line-init : goal.loop-line-init
 loop-line-init g c =
     let about = c.args.table.now.about in
     let pair = pair_of g.row.W c.args.left c.args.right in
+    let sizes = c.sizes-sizes.result.now in
     let walk : c.walk-walk.result ≡ record { course = c.new-path.result; passed = 0 } = c.walk-walk.ensures in
-    let along : Along about pair (record { pair = c.packed.result; d = c.sizes-sizes.result.now.roots; lines = walked_lines c.sizes-sizes.result.now.roots c.sizes-sizes.result.now.probe }) =
-    subst (λ (n : ℕ). Along about pair (record { pair = n; d = c.sizes-sizes.result.now.roots; lines = walked_lines c.sizes-sizes.result.now.roots c.sizes-sizes.result.now.probe })) (sym c.packed.ensures.same) (along_path about c.sizes-sizes.result.now pair c.sizes-sizes.ensures) in
+    let course : c.walk-walk.result.course ≡ record { pair = c.packed.result; d = sizes.roots; lines = walked_lines sizes.roots sizes.probe } = ap (λ (w : Progress). w.course) walk ∙ c.new-path.ensures.course in
+    let along : Along about pair (record { pair = c.packed.result; d = sizes.roots; lines = walked_lines sizes.roots sizes.probe }) =
+    subst (λ (n : ℕ). Along about pair (record { pair = n; d = sizes.roots; lines = walked_lines sizes.roots sizes.probe })) (sym c.packed.ensures.same) (along_path about sizes pair c.sizes-sizes.ensures) in
     record {
       rest = c.requires.rest;
-      along = subst (λ (p : Course). Along about pair p) (sym (ap (λ (w : Progress). w.course) walk ∙ c.new-path.ensures.course)) along;
+      along = subst (λ (p : Course). Along about pair p) (sym course) along;
       line = ap (λ (w : Progress). w.passed) walk;
       end = let len = c.len-line-end.ensures.steps in let same = ap (λ (w : Progress). w.course.lines) walk in omega (arith, len, same);
       passes = passes_none _ about c.args.pass.now pair c.requires.rest;
