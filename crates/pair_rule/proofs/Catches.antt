@@ -1,5 +1,5 @@
 -- Views that caught up: one after another, and as passes between calls.
-use Rattle.std.proofs.Common.{◌≡◌, ℕ, ◌+◌, ◌*◌, List, [], ◌∷◌, ◌++◌, length, drop, get_or, Bool, true, false, cond, refl, sym, ap, ◌∙◌, subst, inl, inr, ⊎_elim, eqb, eq-eqb, arith, append-nil}
+use Rattle.std.proofs.Common.{◌≡◌, ℕ, ◌+◌, List, [], ◌∷◌, ◌++◌, length, drop, get_or, Bool, true, false, cond, refl, sym, ap, ◌∙◌, subst, ⊎_elim, eq-eqb, arith, append-nil}
 use Rattle.std.specs.Prelude.{◌&&◌, ◌||◌, ◌==◌}
 use Rattle.std.specs.List.{list_any}
 use Rattle.std.proofs.lemmas.List.Sums.{sum_by-append}
@@ -11,10 +11,9 @@ use Rattle.tdb_base.specs.Legal.{Extends}
 use Rattle.pair_rule.specs.declared.view.View.{View}
 use Rattle.pair_rule.specs.declared.sizes.About.{About}
 use Rattle.pair_rule.specs.declared.pass.PassOf.{PassOf}
-use Rattle.pair_rule.specs.View.{face}
 use Rattle.pair_rule.specs.Rest.{SeatRests, AtRest, names_of_callers, view}
 use Rattle.pair_rule.specs.Plays.{Caught}
-use Rattle.pair_rule.proofs.Histories.{extends_push, extends_trans}
+use Rattle.pair_rule.proofs.Histories.{extends_trans}
 use Rattle.pair_rule.proofs.Counts.{names_same}
 
 -- how many names these callers gave: by one entry after another

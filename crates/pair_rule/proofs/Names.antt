@@ -1,12 +1,12 @@
 -- Names and flags after one entry more, and the root pairs that two views have for them.
-use Rattle.std.proofs.Common.{◌≡◌, ◌≢◌, ◌⊎◌, ℕ, List, [], ◌∷◌, ◌++◌, length, Bool, true, false, Option, Some, None, refl, sym, ap, ◌∙◌, subst, inl, inr, ⊎_elim, append-nil}
+use Rattle.std.proofs.Common.{◌≡◌, ℕ, List, [], ◌∷◌, ◌++◌, length, Bool, true, false, Option, Some, None, refl, sym, ap, ◌∙◌, subst, inl, inr, ⊎_elim, append-nil}
 use Rattle.std.specs.Prelude.{if◌then◌else◌}
 use Rattle.std.proofs.lemmas.List.Sums.{fold-append}
 use Rattle.tree_shape.specs.Tree.{Has, RootStands, IsPart}
 use Rattle.tree_shape.proofs.Trees.{stands_more}
-use Rattle.tdb_base.specs.History.{Vector, Act, Put, Entry, History, is_fresh, names, same, name_of, flags_of, flags_after}
+use Rattle.tdb_base.specs.History.{Vector, Put, Entry, History, names, same, name_of, flags_of, flags_after}
 use Rattle.tdb_base.specs.Legal.{IsLegal, Extends}
-use Rattle.tdb_base.proofs.NameLemmas.{name-push, names-this, name-kept, same-refl, keeps-names}
+use Rattle.tdb_base.proofs.NameLemmas.{name-push, name-kept, same-refl, keeps-names}
 use Rattle.pair_rule.specs.declared.sizes.About.{About}
 use Rattle.pair_rule.specs.Rule.{Named}
 use Rattle.pair_rule.proofs.Lists.{has_front, has_back, has_either}

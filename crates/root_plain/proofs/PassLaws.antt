@@ -1,7 +1,7 @@
 -- The laws of passes of a plain store.
 use Rattle.std.proofs.Common.{◌≡◌, ℕ, ◌^◌, ◌<◌, [], ◌∷◌, Bool, Option, Some, None, refl, sym, ap, ◌∙◌, subst}
 use Rattle.atomic_table.specs.Seated.{TableId}
-use Rattle.tree_shape.specs.Tree.{Has, IsNaming, IsPart, RootStands}
+use Rattle.tree_shape.specs.Tree.{Has, IsPart, RootStands}
 use Rattle.tree_shape.proofs.Trees.{one_root}
 use Rattle.tdb_base.specs.History.{Vector, name_of}
 use Rattle.tdb_base.proofs.NameLemmas.{names-differ, entry-named}

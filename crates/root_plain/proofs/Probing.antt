@@ -1,15 +1,15 @@
 -- Walks along a root pair's path: what one look after another tells.
-use Rattle.std.proofs.Common.{◌≡◌, ◌≢◌, ◌⊎◌, ℕ, suc, ◌+◌, ◌*◌, ◌/◌, ◌%◌, ◌^◌, ◌<◌, ◌≤◌, List, [], ◌∷◌, ◌++◌, length, Bool, true, false, refl, sym, ap, ◌∙◌, subst, ⊎_elim, eq-eqb, ne_eqb, arith, append-nil, Some}
+use Rattle.std.proofs.Common.{◌≡◌, ◌≢◌, ◌⊎◌, ℕ, ◌+◌, ◌/◌, ◌%◌, ◌^◌, ◌<◌, ◌≤◌, [], ◌∷◌, length, Bool, false, refl, sym, ap, ◌∙◌, subst, ⊎_elim, eq-eqb, ne_eqb, arith, append-nil, Some}
 use mathlib.Core.Logic.{dite}
 use native.Mathlib.Decide.{ℕ_discrete}
 use Rattle.std.proofs.lemmas.Nat.{shr_split, shr_high, mod_low}
 use Rattle.atomic_table.specs.Seated.{TableId}
 use Rattle.tree_shape.specs.Tree.{Has, IsNaming, RootStands}
 use Rattle.tree_shape.proofs.Trees.{one_vector, one_root}
-use Rattle.tdb_base.specs.History.{Vector, Entry, History, name_of}
+use Rattle.tdb_base.specs.History.{Vector, History, name_of}
 use Rattle.tdb_base.specs.Legal.{Extends}
 use Rattle.tdb_base.proofs.NameLemmas.{names-differ, keeps-names}
-use Rattle.packed_word.specs.Word.{IsLayout, IsPresent, left_of, right_of, pair_of, word_of}
+use Rattle.packed_word.specs.Word.{IsPresent, left_of, right_of, pair_of, word_of}
 use Rattle.packed_word.proofs.Numbers.{has_parts}
 use Rattle.pair_rule.specs.declared.view.View.{View}
 use Rattle.probe_path.specs.Path.{Course, bucket_at, walked_lines, path_length}

@@ -1,12 +1,12 @@
 -- Passes that looked at a root bucket or put a pair there.
-use Rattle.std.proofs.Common.{◌≡◌, ◌⊎◌, ℕ, suc, ◌+◌, ◌-◌, ◌*◌, ◌^◌, ◌<◌, ◌≤◌, List, [], ◌∷◌, length, Bool, true, false, refl, sym, ap, ◌∙◌, subst, inl, ⊎_elim, eqb, arith}
+use Rattle.std.proofs.Common.{◌≡◌, ℕ, suc, ◌+◌, ◌-◌, ◌^◌, ◌<◌, ◌≤◌, List, [], ◌∷◌, length, Bool, true, false, refl, sym, ap, ◌∙◌, subst, ⊎_elim, eqb, arith}
 use Rattle.std.proofs.Math.Pow.{pow_mono}
 use mathlib.Core.Option.{none}
 use prog.Atomic.{either}
-use Rattle.atomic_table.specs.Table.{Me, step, Allows}
+use Rattle.atomic_table.specs.Table.{step, Allows}
 use Rattle.atomic_table.specs.Seated.{TableId}
 use Rattle.atomic_table.specs.declared.shared.Seat.{Seat}
-use Rattle.tree_shape.specs.Tree.{Has, RootStands}
+use Rattle.tree_shape.specs.Tree.{RootStands}
 use Rattle.tdb_base.specs.History.{Vector, History}
 use Rattle.pair_rule.specs.declared.view.View.{View}
 use Rattle.pair_rule.specs.declared.sizes.Sizes.{Sizes}
@@ -16,7 +16,7 @@ use Rattle.pair_rule.specs.Paths.{node_buckets, root_buckets, size, bucket, reac
 use Rattle.pair_rule.specs.Plays.{first_root}
 use Rattle.pair_rule.specs.Rest.{SeatRests, names_of_callers, view}
 use Rattle.pair_rule.specs.Rule.{Kept}
-use Rattle.pair_rule.proofs.Catches.{names_by_seen, names_by_fresh, caught_then, rests_caught}
+use Rattle.pair_rule.proofs.Catches.{names_by_seen, names_by_fresh, rests_caught}
 use Rattle.root_plain.specs.declared.root.Roots.{Roots}
 use Rattle.root_plain.specs.Plain.{IsPlain, IsRoot, Plain, Told}
 use Rattle.root_plain.specs.Plays.{roots_of, house_of, Rests, CaughtUp, call, Called, Shows, Leaves, sought, claimed}

@@ -1,37 +1,24 @@
 -- Loads and exchanges of root words, as the table's rule allows them.
-use Rattle.std.proofs.Common.{◌≡◌, ◌≢◌, ◌⊎◌, ℕ, suc, ◌+◌, ◌-◌, ◌*◌, ◌^◌, ◌<◌, ◌≤◌, List, [], ◌∷◌, ◌++◌, length, drop, set, get_or, Bool, true, false, Option, Some, None, refl, sym, ap, ◌∙◌, subst, inl, inr, ⊎_elim, eqb, arith, append-nil, length-set, get_or-set_same, get_or-set_other}
-use mathlib.Core.Option.{some, none}
-use mathlib.Core.Logic.{dite}
-use native.Mathlib.Decide.{ℕ_discrete}
-use lib.ListN.{get_elem?}
+use Rattle.std.proofs.Common.{◌≡◌, ℕ, ◌+◌, ◌-◌, ◌<◌, List, [], ◌∷◌, ◌++◌, length, set, get_or, Bool, true, refl, sym, ap, ◌∙◌, subst, inl, eqb, arith}
+use mathlib.Core.Option.{none}
 use lib.Seq.{set-get_or}
-use Rattle.std.proofs.lemmas.List.{get_or-drop}
-use Rattle.std.proofs.lemmas.Nat.{pow_pos}
 use prog.Atomic.{either}
-use Rattle.std.specs.Prelude.{◌==◌, if◌then◌else◌}
 use Rattle.atomic_table.specs.Table.{State, Me, Act, Valid, step, keeps, stepped, carried_after, Allows}
 use Rattle.atomic_table.proofs.Lists.{exchanged}
-use Rattle.tree_shape.specs.Tree.{Has, IsPart, RootStands}
-use Rattle.tree_shape.proofs.Trees.{one_root}
-use Rattle.tdb_base.specs.History.{Vector, Put, Entry, History, names, same, name_of, flags_of}
-use Rattle.tdb_base.specs.Legal.{IsLegal, Allows as MayCome}
-use Rattle.tdb_base.proofs.NameLemmas.{name-push, names-this, names-differ, name-kept, entry-named, legal-push}
+use Rattle.tree_shape.specs.Tree.{RootStands}
+use Rattle.tdb_base.specs.History.{Vector}
 use Rattle.packed_word.specs.Word.{word_of}
 use Rattle.pair_rule.specs.declared.view.View.{View}
 use Rattle.pair_rule.specs.declared.sizes.About.{About}
-use Rattle.pair_rule.specs.Paths.{node_buckets, root_buckets, size, bucket, reach, IsPair, Passed, Listed}
-use Rattle.pair_rule.specs.Rule.{InWords, Stands, Filled, Named, Fits, Kept}
-use Rattle.pair_rule.specs.Plays.{Caught, first_root}
-use Rattle.pair_rule.proofs.Lists.{has_front, has_back, has_either, each_set}
-use Rattle.pair_rule.proofs.Histories.{extends_refl}
-use Rattle.pair_rule.proofs.Buckets.{filled_put, nowhere}
-use Rattle.pair_rule.proofs.Advance.{catch, SameNodes, united, catches}
-use Rattle.pair_rule.proofs.Names.{SameNames, same_none, same_seen, fresh_flags, other_flags, named_same, root_more, named_caught, named_fresh}
+use Rattle.pair_rule.specs.Paths.{root_buckets, size, bucket, reach, IsPair, Passed, Listed}
+use Rattle.pair_rule.specs.Rule.{Kept}
+use Rattle.pair_rule.specs.Plays.{first_root}
+use Rattle.pair_rule.proofs.Lists.{has_back}
+use Rattle.pair_rule.proofs.Advance.{catch}
+use Rattle.pair_rule.proofs.Names.{root_more}
 use Rattle.root_plain.specs.declared.root.Roots.{Roots}
-use Rattle.root_plain.specs.Plain.{both_roots, IsPlain, Holds, IsRoot, root_at, HasFlags, Plain, Told}
-use Rattle.root_plain.specs.Words.{same_word, holds_used, root_one, root_used}
-use Rattle.root_plain.specs.Laws.{plain_tells, plain_houses}
-use Rattle.root_plain.specs.Plays.{roots_of, house_of, CaughtUp, call, IsNoName, Called, wants, Shows, Leaves, sought, claimed}
+use Rattle.root_plain.specs.Plain.{root_at, Plain}
+use Rattle.root_plain.specs.Plays.{roots_of, call, Called, wants, Shows, sought, claimed}
 use Rattle.root_plain.specs.declared.plays.Wanted.TheVariants.{Pair}
 use Rattle.root_plain.proofs.RootSteps.{behind, behind_at, first, sees, wins}
 

@@ -1,5 +1,5 @@
 -- In a store of two slots a root's parts are the vector's slots.
-use Rattle.std.proofs.Common.{◌≡◌, ℕ, ◌^◌, ◌<◌, List, [], ◌∷◌, length, refl, sym, subst, arith}
+use Rattle.std.proofs.Common.{◌≡◌, ℕ, ◌^◌, ◌<◌, List, [], ◌∷◌, sym, subst, arith}
 use Rattle.std.proofs.lemmas.Nat.{shr_high, mod_low}
 use Rattle.tree_shape.specs.Tree.{RootStands, slot}
 use Rattle.packed_word.specs.Word.{pair_of}

@@ -1,23 +1,22 @@
 -- The plain rule is kept by the steps on nodes, and where passes are made, split and joined; and what it tells of a view.
-use Rattle.std.proofs.Common.{◌≡◌, ◌≢◌, ◌⊎◌, ℕ, zero, suc, ◌<◌, ◌^◌, List, [], ◌∷◌, ◌++◌, length, set, get_or, Bool, true, false, Some, refl, sym, ap, ◌∙◌, subst, inl, inr, ⊎_elim, arith}
+use Rattle.std.proofs.Common.{◌≡◌, ◌⊎◌, ℕ, zero, suc, ◌<◌, List, [], ◌∷◌, ◌++◌, set, get_or, false, Some, refl, sym, subst, inl, ⊎_elim, arith}
 use Rattle.std.proofs.lemmas.Nat.{pow_below}
 use mathlib.Core.Option.{some, some-injective}
 use lib.ListN.{get_elem?}
 use Rattle.tree_shape.specs.Tree.{Has, IsPart}
-use Rattle.tdb_base.specs.History.{Vector, History, name_of}
-use Rattle.tdb_base.specs.Legal.{IsLegal, Extends}
+use Rattle.tdb_base.specs.History.{History, name_of}
 use Rattle.tdb_base.proofs.NameLemmas.{name-nil}
 use Rattle.pair_rule.specs.declared.view.View.{View}
 use Rattle.pair_rule.specs.declared.sizes.About.{About}
 use Rattle.pair_rule.specs.Laws.{InRange, IsAbout}
-use Rattle.pair_rule.specs.View.{Grown, longer, left, right, both, newcomer, nobody}
+use Rattle.pair_rule.specs.View.{Grown, left, right, both, newcomer, nobody}
 use Rattle.pair_rule.specs.Paths.{root_buckets, size, Listed}
 use Rattle.pair_rule.specs.Rule.{Fits}
 use Rattle.pair_rule.specs.Rest.{FillsPaths}
 use Rattle.pair_rule.proofs.Lists.{has_front, has_back, has_either, each_set, each_snoc, not_there}
 use Rattle.pair_rule.proofs.Buckets.{bucket_below, stands}
 use Rattle.root_plain.specs.declared.root.Roots.{Roots}
-use Rattle.root_plain.specs.Plain.{no_roots, both_roots, sized, count, IsPlain, IsRoot, root_at, Plain, Lies, Told}
+use Rattle.root_plain.specs.Plain.{no_roots, both_roots, sized, count, IsPlain, IsRoot, root_at, Plain, Told}
 use Rattle.root_plain.specs.Words.{root_one, root_used}
 
 abbrev V : Type 0

@@ -50,7 +50,8 @@ pub record HasFlags (about : About) (log : History) (v : Vector) (word : ℕ) : 
   pub flags_are : flags_of log v ≡ Some flags
   pub holds : Holds about word pair flags
 
--- the rule on the root words, the history and what each view knows of the words
+-- The rule on the root words, the history and what each view knows of the words: the used buckets are exactly the identifiers of the history's names, each with its vector's flags,
+-- and each root pair that a view knows is that of its word. No entry is ruled out here.
 pub record Plain (about : About) (log : History) (ws : List ℕ) (views : List (View Roots)) : Type 0 where
   pub is_about : IsPlain about
   pub filled : Filled (root_buckets about) (IsRoot about) (root_at ws)

@@ -7,7 +7,7 @@ use Rattle.tdb_base.specs.History.{Vector, Put, Entry, History, name_of, flags_o
 use Rattle.pair_rule.specs.declared.view.View.{View}
 use Rattle.pair_rule.specs.declared.sizes.About.{About}
 use Rattle.pair_rule.specs.declared.pass.PassOf.{PassOf}
-use Rattle.pair_rule.specs.Paths.{root_buckets, size}
+use Rattle.pair_rule.specs.Paths.{root_buckets}
 use Rattle.pair_rule.specs.Plays.{Caught, first_root}
 use Rattle.pair_rule.specs.Rest.{FillsPaths, AtRest}
 use Rattle.root_plain.specs.declared.root.Roots.{Roots}

@@ -1,5 +1,5 @@
 -- Root words: a word has one pair with one number of flags, and an empty word has none.
-use Rattle.std.proofs.Common.{◌≡◌, ℕ, ◌+◌, ◌*◌, ◌^◌, ◌<◌, sym, ◌∙◌, arith}
+use Rattle.std.proofs.Common.{◌≡◌, ℕ, ◌+◌, ◌*◌, ◌^◌, sym, ◌∙◌, arith}
 use Rattle.std.proofs.lemmas.Nat.{same_from_place}
 use Rattle.pair_rule.specs.declared.sizes.About.{About}
 use Rattle.root_plain.specs.Plain.{Holds, IsRoot}

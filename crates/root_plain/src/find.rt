@@ -1,4 +1,4 @@
-ghost use Rattle.std.specs.Prelude.{◌≡◌, ℕ, ◌^◌, ◌<◌, ◌≤◌, ◌↔◌, IsTrue, [], ◌∷◌, false, Some, MatchOption};
+ghost use Rattle.std.specs.Prelude.{◌≡◌, ℕ, ◌^◌, ◌<◌, ◌≤◌, ◌↔◌, IsTrue, [], ◌∷◌, false, Some, IfSome, IfNone};
 ghost use Rattle.packed_word.specs.Word.{pair_of};
 ghost use Rattle.tree_shape.specs.Tree.{Has};
 ghost use Rattle.tdb_base.specs.History.{Vector, name_of};
@@ -32,8 +32,10 @@ pub fn find_id<const W: u32, const F: u32>(
 ) -> Option<(u64, u64)>
     requires rest { Rests nodes.now.table.table.shared.table_id nodes.now.table.about pass.old }
     ensures rest { Rests nodes.now.table.table.shared.table_id nodes.now.table.about pass.new }
-    ensures parts { MatchOption result (Unit {0}) (λ pair. (pair.0 < 2 ^ W) × (pair.1 < 2 ^ W)) }
-    ensures told { MatchOption result (CaughtUp [] (view pass.old) (view pass.new) × IsNoName id (view pass.new).seen) (λ pair. Called false id (pair_of W pair.0 pair.1) (view pass.old) (view pass.new)) }
+    ensures parts { IfSome result (λ pair. (pair.0 < 2 ^ W) × (pair.1 < 2 ^ W)) }
+    ensures found { IfSome result (λ pair. Called false id (pair_of W pair.0 pair.1) (view pass.old) (view pass.new)) }
+    ensures no_name { IfNone result (IsNoName id (view pass.new).seen) }
+    ensures no_call { IfNone result (CaughtUp [] (view pass.old) (view pass.new)) }
     ensures buffers { pass.new ≡ record pass.old { seat = pass.new.seat } }
 {
     let table = nodes.table();

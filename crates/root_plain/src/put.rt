@@ -90,6 +90,7 @@ fn visit<const W: u32, const F: u32>(
 }
 
 // Visits the buckets of one line of the pair's path.
+#[inline]
 fn walk_line<const W: u32, const F: u32>(
     table: &PairTable<PlainRoot<W, F>, W, F>,
     pass: &mut Pass<PlainRoot<W, F>, W, F>,
@@ -116,6 +117,7 @@ fn walk_line<const W: u32, const F: u32>(
 }
 
 // Visits the buckets of the pair's path, line by line.
+#[inline]
 fn walk_path<const W: u32, const F: u32>(
     table: &PairTable<PlainRoot<W, F>, W, F>,
     pass: &mut Pass<PlainRoot<W, F>, W, F>,
@@ -154,7 +156,8 @@ pub fn put_root<L: Ledger, const W: u32, const F: u32>(
     steps: &mut Steps<L>,
 ) -> Result<(u64, bool), RootsFull>
     requires rest { Rests nodes.now.table.table.shared.table_id nodes.now.table.about pass.old }
-    requires parts { (left < 2 ^ W) × (right < 2 ^ W) }
+    requires left { left < 2 ^ W }
+    requires right { right < 2 ^ W }
     requires stands { IsSomeRoot nodes.now.table.about (view pass.old).known (pair_of W left right) }
     ensures rest { Rests nodes.now.table.table.shared.table_id nodes.now.table.about pass.new }
     ensures entry { let about = nodes.now.table.about in IfOk result (λ a. (vector : Vector) → RootStands about.width about.slots (view pass.old).known (pair_of W left right) vector → length vector ≡ about.slots

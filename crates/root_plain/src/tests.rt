@@ -1,5 +1,5 @@
 // Stores of two slots, whose roots are the vectors themselves. The buckets are those of hashes that were computed by hand.
-ghost use Rattle.std.specs.Prelude.{◌≡◌, ◌^◌, ◌<◌, IfOk, MatchOption, Some};
+ghost use Rattle.std.specs.Prelude.{◌≡◌, ◌^◌, ◌<◌, ◌≤◌, IfOk, MatchOption, Some};
 ghost use Rattle.tdb_base.specs.History.{Vector, name_of};
 ghost use Rattle.pair_rule.specs.Rest.{view};
 ghost use Rattle.root_plain.specs.Plays.{Rests};
@@ -17,14 +17,15 @@ type Store = Nodes<PlainRoot<16, 8>, 16, 8>;
 
 type StorePass = Pass<PlainRoot<16, 8>, 16, 8>;
 
-// A store of vectors of two slots, with 8 buckets for roots, and its pass.
-fn store(alloc: Global) -> Result<(Store, StorePass), NoMemory>
+// A store of vectors of two slots, with `2^roots` buckets for roots, and its pass.
+fn store(alloc: Global, roots: u32) -> Result<(Store, StorePass), NoMemory>
+    requires { (3 ≤ roots) × (roots ≤ 24) }
     ensures slots { IfOk result (λ made. made.0.table.about.slots ≡ 2) }
     ensures rest { IfOk result (λ made. Rests made.0.table.table.shared.table_id made.0.table.about made.1) }
 {
     let sizes = Sizes {
         nodes: 3,
-        roots: 3,
+        roots,
         region: 6,
         probe: 4_194_304,
     };
@@ -54,7 +55,7 @@ fn put<L: Ledger>(
 
 #[test]
 fn answers_buckets_of_paths(rt: HostRuntime) -> Result<(), Fail> {
-    let (store, mut pass) = store(rt.alloc())?;
+    let (store, mut pass) = store(rt.alloc(), 3)?;
     let mut steps = Steps::new(Silent);
     assert_eq!(rt; put(&store, &mut pass, 3, 5, &mut steps), Some((0, true)));
     assert_eq!(rt; put(&store, &mut pass, 5, 3, &mut steps), Some((6, true)));
@@ -70,21 +71,30 @@ fn answers_buckets_of_paths(rt: HostRuntime) -> Result<(), Fail> {
     Ok(())
 }
 
-#[test]
-fn fills_up(rt: HostRuntime) -> Result<(), Fail> {
-    let (store, mut pass) = store(rt.alloc())?;
+// So many roots fill a table of so many buckets, and one more finds no place.
+fn fills(rt: &impl Abort, alloc: Global, roots: u32, count: u64) -> Result<(), NoMemory>
+    requires { (3 ≤ roots) × (roots ≤ 24) × (count < 64) }
+{
+    let (store, mut pass) = store(alloc, roots)?;
     let mut steps = Steps::new(Kept { shown: 0 });
     let mut buckets = 0u64;
-    for right in 0..8 {
+    for right in 0..count {
         let Some((id, fresh)) = put(&store, &mut pass, 0, right, &mut steps) else {
             panic!(rt; "full")
         };
-        assert!(rt; fresh && id < 8);
+        assert!(rt; fresh && id < count);
         buckets |= 1 << id;
     }
-    assert!(rt; buckets == 255);
-    assert!(rt; put(&store, &mut pass, 0, 8, &mut steps).is_none());
-    assert!(rt; steps.shown() == 9);
+    assert!(rt; buckets == (1 << count) - 1);
+    assert!(rt; put(&store, &mut pass, 0, count, &mut steps).is_none());
+    assert!(rt; steps.shown() == count + 1);
+    Ok(())
+}
+
+#[test]
+fn fills_up(rt: HostRuntime) -> Result<(), Fail> {
+    fills(&rt, rt.alloc(), 3, 8)?;
+    fills(&rt, rt.alloc(), 4, 16)?;
     Ok(())
 }
 
@@ -93,7 +103,11 @@ fn put_three(
     store: &Store,
     pass: &mut StorePass,
     first: u64,
-) -> (Option<(u64, bool)>, Option<(u64, bool)>, Option<(u64, bool)>)
+) -> (
+    Option<(u64, bool)>,
+    Option<(u64, bool)>,
+    Option<(u64, bool)>,
+)
     requires slots { store.now.table.about.slots ≡ 2 }
     requires rest { Rests store.now.table.table.shared.table_id store.now.table.about pass.old }
     requires small { first < 2 ^ 15 }
@@ -116,11 +130,18 @@ fn agrees(rt: &impl Abort, one: Option<(u64, bool)>, other: Option<(u64, bool)>)
 
 #[test]
 fn two_threads_agree(rt: HostRuntime) -> Result<(), Fail> {
-    let (store, mut first) = store(rt.alloc())?;
+    let (store, mut first) = store(rt.alloc(), 3)?;
     let mut second = store.table().split(rt.alloc(), &mut first)?;
     let (one, two) = thread::join(
         &rt,
-        || -> ((Option<(u64, bool)>, Option<(u64, bool)>, Option<(u64, bool)>), StorePass)
+        || -> (
+            (
+                Option<(u64, bool)>,
+                Option<(u64, bool)>,
+                Option<(u64, bool)>,
+            ),
+            StorePass,
+        )
             requires slots { store.table.about.slots ≡ 2 }
             requires rest { Rests store.table.table.shared.table_id store.table.about first }
             ensures { Rests store.table.table.shared.table_id store.table.about result.1 }
@@ -128,7 +149,14 @@ fn two_threads_agree(rt: HostRuntime) -> Result<(), Fail> {
             let found = put_three(&store, &mut first, 1);
             (found, first)
         },
-        || -> ((Option<(u64, bool)>, Option<(u64, bool)>, Option<(u64, bool)>), StorePass)
+        || -> (
+            (
+                Option<(u64, bool)>,
+                Option<(u64, bool)>,
+                Option<(u64, bool)>,
+            ),
+            StorePass,
+        )
             requires slots { store.table.about.slots ≡ 2 }
             requires rest { Rests store.table.table.shared.table_id store.table.about second }
             ensures { Rests store.table.table.shared.table_id store.table.about result.1 }

@@ -1,5 +1,4 @@
-use Rattle.std.proofs.Common.{arith, refl, subst, sym, ap, ◌∙◌, ◌≡◌}
-use Rattle.pair_rule.specs.Rest.{view}
+use Rattle.std.proofs.Common.{arith, subst}
 use Rattle.root_plain.specs.Plays.{Rests}
 use Rattle.root_plain.proofs.Probing.{name_bucket, found_there}
 use Rattle.root_plain.proofs.find.root_pair.Goals as goal

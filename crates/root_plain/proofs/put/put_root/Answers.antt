@@ -1,8 +1,6 @@
-use Rattle.std.proofs.Common.{arith, refl, subst, sym, ◌≡◌}
+use Rattle.std.proofs.Common.{subst}
 use Rattle.packed_word.specs.Word.{pair_of}
-use Rattle.pair_rule.specs.Rest.{view}
 use Rattle.root_plain.specs.Plays.{Rests}
-use Rattle.root_plain.specs.Probe.{Passes}
 use Rattle.root_plain.proofs.Probing.{called_entry}
 use Rattle.root_plain.proofs.put.put_root.Goals as goal
 

@@ -1,10 +1,8 @@
-use Rattle.std.proofs.Common.{arith, refl, subst, sym, ◌≡◌, ◌≢◌, ℕ}
+use Rattle.std.proofs.Common.{arith}
 use Rattle.packed_word.specs.Word.{pair_of}
 use Rattle.pair_rule.specs.Paths.{root_buckets}
 use Rattle.pair_rule.specs.Rest.{view}
-use Rattle.root_plain.specs.Plays.{CaughtUp, Shows, wants}
-use Rattle.root_plain.specs.declared.plays.Wanted.TheVariants.{Pair}
-use Rattle.root_plain.proofs.Probing.{called_then, shows_then, some_more, passed_more, buffers_then}
+use Rattle.root_plain.proofs.Probing.{called_then, shows_then, some_more, passed_more}
 use Rattle.root_plain.proofs.put.settle.Goals as goal
 
 pub claim-requires : goal.claim-requires

@@ -1,4 +1,4 @@
-use Rattle.std.proofs.Common.{arith, refl, subst, sym, ◌≡◌, ◌≢◌, ℕ}
+use Rattle.std.proofs.Common.{subst}
 use Rattle.packed_word.specs.Word.{pair_of}
 use Rattle.pair_rule.specs.Rest.{view}
 use Rattle.pair_rule.specs.declared.sizes.About.{About}

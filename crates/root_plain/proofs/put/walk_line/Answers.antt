@@ -1,4 +1,4 @@
-use Rattle.std.proofs.Common.{arith, refl, subst, sym, ap, ◌∙◌, ◌≡◌, ◌≢◌, ◌+◌, ◌*◌, ◌<◌, ℕ}
+use Rattle.std.proofs.Common.{arith, refl, subst, ◌+◌, ◌*◌, ◌<◌, ℕ}
 use Rattle.packed_word.specs.Word.{pair_of}
 use Rattle.pair_rule.specs.Paths.{root_buckets, reach, Passed, Listed}
 use Rattle.pair_rule.specs.Rest.{view}
@@ -25,11 +25,25 @@ visit-requires g c =
     let walk = c.args.walk.now in
     let along = c.requires.walk in
     let step : ℕ = 8 * walk.passed + c.loop-i.i in
-    let near : step < reach (root_buckets about) = omega (arith, along.all, c.requires.line, c.loop-i-test.true) in
-    (omega arith, (omega arith, (i.rest, (bucket_within about c.bucket.result walk.course pair along c.bucket.ensures.below, (c.requires.parts, (
-      (step, near, bucket_is about g.row.W pair step c.bucket.result walk.course t.width along c.bucket.ensures.bucket, i.passes.passed),
-      some_more about pair (view c.args.pass.now) (view c.loop-i.pass) i.passes.caught c.requires.stands,
-    ))))))
+    let near : step < reach (root_buckets about) = omega (arith, along.all, c.requires.line, c.loop-i-test.true) in (
+      omega arith,
+      (
+        omega arith,
+        (
+          i.rest,
+          (
+            bucket_within about c.bucket.result walk.course pair along c.bucket.ensures.below,
+            (
+              c.requires.parts,
+              (
+                (step, near, bucket_is about g.row.W pair step c.bucket.result walk.course t.width along c.bucket.ensures.bucket, i.passes.passed),
+                some_more about pair (view c.args.pass.now) (view c.loop-i.pass) i.passes.caught c.requires.stands,
+              ),
+            ),
+          ),
+        ),
+      ),
+    )
 
 pub returns-in-Some-clause-told : goal.returns-in-Some-clause-told
 returns-in-Some-clause-told g c =

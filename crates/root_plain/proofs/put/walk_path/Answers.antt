@@ -1,7 +1,7 @@
 use Rattle.std.proofs.Common.{arith, refl, subst, sym, ap, ◌∙◌, ◌≡◌, ◌+◌, ◌*◌, ◌<◌, ℕ}
 use Rattle.packed_word.specs.Word.{pair_of}
 use Rattle.probe_path.specs.Path.{Course, Progress, walked_lines}
-use Rattle.pair_rule.specs.Paths.{root_buckets, reach, Passed, Listed}
+use Rattle.pair_rule.specs.Paths.{root_buckets, Passed, Listed}
 use Rattle.pair_rule.specs.Rest.{view}
 use Rattle.root_plain.specs.Probe.{Along, Passes}
 use Rattle.root_plain.proofs.Probing.{called_then, some_more, passes_none, passes_then, along_path, buffers_then}
@@ -11,12 +11,14 @@ pub loop-line-init : goal.loop-line-init
 loop-line-init g c =
     let about = c.args.table.now.about in
     let pair = pair_of g.row.W c.args.left c.args.right in
+    let sizes = c.sizes-sizes.result.now in
     let walk : c.walk-walk.result ≡ record { course = c.new-path.result; passed = 0 } = c.walk-walk.ensures in
-    let along : Along about pair (record { pair = c.packed.result; d = c.sizes-sizes.result.now.roots; lines = walked_lines c.sizes-sizes.result.now.roots c.sizes-sizes.result.now.probe }) =
-    subst (λ (n : ℕ). Along about pair (record { pair = n; d = c.sizes-sizes.result.now.roots; lines = walked_lines c.sizes-sizes.result.now.roots c.sizes-sizes.result.now.probe })) (sym c.packed.ensures.same) (along_path about c.sizes-sizes.result.now pair c.sizes-sizes.ensures) in
+    let course : c.walk-walk.result.course ≡ record { pair = c.packed.result; d = sizes.roots; lines = walked_lines sizes.roots sizes.probe } = ap (λ (w : Progress). w.course) walk ∙ c.new-path.ensures.course in
+    let along : Along about pair (record { pair = c.packed.result; d = sizes.roots; lines = walked_lines sizes.roots sizes.probe }) =
+    subst (λ (n : ℕ). Along about pair (record { pair = n; d = sizes.roots; lines = walked_lines sizes.roots sizes.probe })) (sym c.packed.ensures.same) (along_path about sizes pair c.sizes-sizes.ensures) in
     record {
       rest = c.requires.rest;
-      along = subst (λ (p : Course). Along about pair p) (sym (ap (λ (w : Progress). w.course) walk ∙ c.new-path.ensures.course)) along;
+      along = subst (λ (p : Course). Along about pair p) (sym course) along;
       line = ap (λ (w : Progress). w.passed) walk;
       end = let len = c.len-line-end.ensures.steps in let same = ap (λ (w : Progress). w.course.lines) walk in omega (arith, len, same);
       passes = passes_none _ about c.args.pass.now pair c.requires.rest;
@@ -28,11 +30,31 @@ walk_line-requires g c =
     let about = c.args.table.now.about in
     let pair = pair_of g.row.W c.args.left c.args.right in
     let i = c.loop-line.invariant in
-    let lt : c.loop-line.walk.passed < c.loop-line.walk.course.lines = omega (arith, i.line, i.end, c.loop-line-test.true) in
-    (omega arith, (omega arith, (omega arith, (i.rest, (c.requires.parts, (i.along, (lt, (
-      subst (λ (n : ℕ). Passed (root_buckets about) (Listed (view c.loop-line.pass).root.roots) pair (8 * n)) (sym i.line) i.passes.passed,
-      some_more about pair (view c.args.pass.now) (view c.loop-line.pass) i.passes.caught c.requires.stands,
-    ))))))))
+    let lt : c.loop-line.walk.passed < c.loop-line.walk.course.lines = omega (arith, i.line, i.end, c.loop-line-test.true) in (
+      omega arith,
+      (
+        omega arith,
+        (
+          omega arith,
+          (
+            i.rest,
+            (
+              c.requires.parts,
+              (
+                i.along,
+                (
+                  lt,
+                  (
+                    subst (λ (n : ℕ). Passed (root_buckets about) (Listed (view c.loop-line.pass).root.roots) pair (8 * n)) (sym i.line) i.passes.passed,
+                    some_more about pair (view c.args.pass.now) (view c.loop-line.pass) i.passes.caught c.requires.stands,
+                  ),
+                ),
+              ),
+            ),
+          ),
+        ),
+      ),
+    )
 
 pub returns-in-Some-clause-told : goal.returns-in-Some-clause-told
 returns-in-Some-clause-told g c =

@@ -1,4 +1,4 @@
-use Rattle.std.proofs.Common.{◌+◌, ◌*◌, ◌≡◌}
+use Rattle.std.proofs.Common.{◌*◌, ◌≡◌}
 use Rattle.packed_word.specs.Word.{pair_of}
 use Rattle.pair_rule.specs.Rest.{view}
 use Rattle.root_plain.specs.Plays.{Rests}

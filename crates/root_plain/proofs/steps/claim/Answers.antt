@@ -1,4 +1,4 @@
-use Rattle.std.proofs.Common.{arith, refl, subst, sym, ap, ◌∙◌, ◌≡◌, ◌≤◌, ◌<◌, ◌-◌, ◌+◌, ◌*◌, ◌^◌, ℕ, true}
+use Rattle.std.proofs.Common.{arith, refl, subst, ◌≡◌, ◌<◌, ◌-◌, ◌*◌, ◌^◌, ℕ, true}
 use Rattle.packed_word.specs.Word.{pair_of}
 use Rattle.packed_word.proofs.Parts.{pair_below}
 use Rattle.pair_rule.specs.Rest.{view}

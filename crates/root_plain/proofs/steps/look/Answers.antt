@@ -1,6 +1,5 @@
-use Rattle.std.proofs.Common.{arith, refl, subst, ap, ◌∙◌, ◌≤◌, ◌-◌, ℕ}
+use Rattle.std.proofs.Common.{refl, subst, ℕ}
 use Rattle.pair_rule.specs.Rest.{view}
-use Rattle.pair_rule.specs.declared.sizes.Sizes.{Sizes}
 use Rattle.root_plain.specs.Plays.{Shows, wants}
 use Rattle.root_plain.proofs.RootPasses.{plain_about, bucket_small, word_of_bucket, word_inside, bucket_of_word, look_allowed, looked_rests}
 use Rattle.root_plain.proofs.steps.look.Goals as goal

@@ -1,6 +1,6 @@
 use Rattle.std.proofs.Common.{◌≡◌}
 use Rattle.root_plain.specs.Plays.{Rests}
-use Rattle.root_plain.proofs.tests.fills_up.Given as goal
+use Rattle.root_plain.proofs.tests.fills.Given as goal
 
 abbrev pub invariant-loop-right : goal.invariant-loop-right
 invariant-loop-right g l = record {
