@@ -1,5 +1,5 @@
 -- What agrees with all that was found agrees with what was found before.
-use Rattle.std.proofs.Common.{◌≡◌, ◌⊎◌, ℕ, suc, ◌+◌, ◌*◌, ◌/◌, ◌%◌, ◌<◌, ◌≤◌, List, inl, inr, ⊎_elim, arith, sym}
+use Rattle.std.proofs.Common.{◌≡◌, ◌⊎◌, ℕ, suc, ◌+◌, ◌*◌, ◌/◌, ◌%◌, ◌<◌, ◌≤◌, List, inl, inr, ⊎_elim, arith, sym, subst}
 use Rattle.std.proofs.Math.Nat.{mul-le-mul_right}
 use Rattle.cleary_core.specs.declared.cells.Sizes.{Sizes}
 use Rattle.cleary_core.specs.Access.{Agrees, HasCells, Reaches}
@@ -41,3 +41,7 @@ first_word z i at p e f = let g : suc i * width z ≡ i * width z + width z = om
 
 pub second_word : (z : Sizes) (i at p : ℕ) → at ≡ i * width z → p ≡ at / 64 + 1 → 64 < at % 64 + width z → HasCells z i (suc i) p
 second_word z i at p e f h = let g : suc i * width z ≡ i * width z + width z = omega arith in (omega arith, omega arith)
+
+-- what one word added
+pub at_word : (before after : ℕ → ℕ → Type 0) (z : Sizes) (low high p : ℕ) → ((i m : ℕ) → after i m → before i m ⊎ (i ≡ p)) → HasCells z low high p → Reaches before after z low high
+at_word before after z low high p only has = λ i m found. ⊎_elim (λ (old : before i m). inl old) (λ (there : i ≡ p). inr (subst (λ (q : ℕ). HasCells z low high q) (sym there) has)) (only i m found)

@@ -83,3 +83,17 @@ pub record ReachesGroup (before after : ℕ → ℕ → Type 0) (z : Sizes) (fro
   pub span : (from ≤ high) × (high ≤ z.cells)
   pub row : (words : List ℕ) → Agrees after words → Unbroken (cell_at z words) from (high - 1)
   pub reach : Reaches before after z from high
+
+-- what was found stands in words of the cells from `from` up to some, which are occupied
+pub record ReachesRow (before after : ℕ → ℕ → Type 0) (z : Sizes) (cells : ℕ → Cell) (from : ℕ) : Type 0 where
+  pub high : ℕ
+  pub span : (from ≤ high) × (high ≤ z.cells)
+  pub row : Row cells from high
+  pub reach : Reaches before after z from high
+
+-- what was found or put stands in words of the run that begins at `start`, from its home on up to some occupied cells, and of the cell on either side
+pub record ReachesEnd (before after : ℕ → ℕ → Type 0) (z : Sizes) (cells : ℕ → Cell) (start home : ℕ) : Type 0 where
+  pub high : ℕ
+  pub span : (home ≤ high) × (high ≤ z.cells)
+  pub row : Row cells home high
+  pub reach : Reaches before after z (start - 1) (suc high)

@@ -44,6 +44,7 @@ pub trait WriteWords: ReadWords {
         requires inside { (count : ℕ) × Self.spans self.old count × (place < count) }
         requires other { ¬ (slice_index (words self.old) place ≡ value) }
         ensures put { words self.new ≡ slice_set (words self.old) place value }
+        ensures only { (i m : ℕ) → Self.reached self.new i m → Self.reached self.old i m ⊎ (i ≡ place) }
         ensures spans { (count : ℕ) → Self.spans self.old count → Self.spans self.new count }
         ensures writes { writes self.old self.new };
 

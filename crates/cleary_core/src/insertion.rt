@@ -4,7 +4,7 @@ ghost use Rattle.cleary_core.specs.Answers.{Tells, Answered};
 ghost use Rattle.cleary_core.specs.Cells.{IsRegion, cell_at, word_count};
 ghost use Rattle.cleary_core.specs.Change.{Belongs, InOneRun};
 ghost use Rattle.cleary_core.specs.Map.{Key, Keeps, KeepsMap};
-ghost use Rattle.cleary_core.specs.Search.{InRun, Placed};
+ghost use Rattle.cleary_core.specs.Search.{InRun, Placed, ReachesEnd, ReachesRow, ReachesRun};
 
 use crate::access::{ReadWords, WriteWords};
 use crate::cells::Sizes;
@@ -39,6 +39,9 @@ fn group_has<A: ReadWords>(
     requires inside { place ≤ sizes.now.cells }
     ensures tells { (words : List ℕ) (keys : List Key) (start home : ℕ) → Agrees (A.reached access.new) words → (k : Keeps sizes.now.cells (cell_at sizes.now words) keys)
         → InRun sizes.now.cells (cell_at sizes.now words) k.slots start home → Placed sizes.now.cells k.slots start place home → (cell_at sizes.now words home).virgin ≡ virgin → Tells result keys home quotient }
+    ensures near { (words : List ℕ) (keys : List Key) (start home : ℕ) → Agrees (A.reached access.new) words → (k : Keeps sizes.now.cells (cell_at sizes.now words) keys)
+        → InRun sizes.now.cells (cell_at sizes.now words) k.slots start home → Placed sizes.now.cells k.slots start place home → (cell_at sizes.now words home).virgin ≡ virgin
+        → ReachesRow (A.reached access.old) (A.reached access.new) sizes.now (cell_at sizes.now words) place }
     ensures reads { A.reads access.old access.new }
     ensures words { A.spans access.new (word_count sizes.now) }
 {
@@ -68,7 +71,8 @@ fn add_key<A: WriteWords>(
         → Belongs sizes.now.cells (cell_at sizes.now (A.words access.old)) k.slots keys gap.now.start gap.now.place home quotient gap.now.fresh }
     ensures answer { (keys : List Key) → KeepsMap sizes.now (A.words access.old) keys → Answered result sizes.now keys home quotient (A.words access.new) }
     ensures unchanged { MatchResult result (λ fresh. MatchBool fresh ⊤ (A.words access.new ≡ A.words access.old)) (λ _. A.words access.new ≡ A.words access.old) }
-    ensures near { InOneRun sizes.now.cells (cell_at sizes.now (A.words access.old)) (cell_at sizes.now (A.words access.new)) home }
+    ensures others { InOneRun sizes.now.cells (cell_at sizes.now (A.words access.old)) (cell_at sizes.now (A.words access.new)) home }
+    ensures near { ReachesEnd (A.reached access.old) (A.reached access.new) sizes.now (cell_at sizes.now (A.words access.old)) gap.now.start home }
     ensures words { A.spans access.new (word_count sizes.now) }
     ensures writes { A.writes access.old access.new }
 {
@@ -100,7 +104,8 @@ pub(crate) fn insert_key<A: WriteWords>(
     requires kept { (keys : List Key) × KeepsMap sizes.now (A.words access.old) keys }
     ensures answer { (keys : List Key) → KeepsMap sizes.now (A.words access.old) keys → Answered result sizes.now keys home quotient (A.words access.new) }
     ensures unchanged { MatchResult result (λ fresh. MatchBool fresh ⊤ (A.words access.new ≡ A.words access.old)) (λ _. A.words access.new ≡ A.words access.old) }
-    ensures near { InOneRun sizes.now.cells (cell_at sizes.now (A.words access.old)) (cell_at sizes.now (A.words access.new)) home }
+    ensures others { InOneRun sizes.now.cells (cell_at sizes.now (A.words access.old)) (cell_at sizes.now (A.words access.new)) home }
+    ensures near { ReachesRun (A.reached access.old) (A.reached access.new) sizes.now (cell_at sizes.now (A.words access.old)) home }
     ensures words { A.spans access.new (word_count sizes.now) }
     ensures writes { A.writes access.old access.new }
 {

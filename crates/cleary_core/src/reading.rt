@@ -148,6 +148,7 @@ pub(crate) fn run_end<A: ReadWords>(sizes: &Sizes, access: &mut A, from: u64) ->
     requires inside { from ≤ sizes.now.cells }
     ensures bounds { (from ≤ result) × (result ≤ sizes.now.cells) }
     ensures end { (words : List ℕ) → Agrees (A.reached access.new) words → RunEnd sizes.now.cells (cell_at sizes.now words) from result }
+    ensures near { Reaches (A.reached access.old) (A.reached access.new) sizes.now from (suc result) }
     ensures reads { A.reads access.old access.new }
     ensures words { A.spans access.new (word_count sizes.now) }
 {

@@ -92,7 +92,7 @@ impl<const W: u32, const F: u32> Region<W, F> {
         self.find_in(&mut SliceReader { words }, home, quotient)
     }
 
-    /// Whether the map has the key, by words that are reached one at a time: those of the cells from the start of the home's run to the end of its group.
+    /// Whether the map has the key, by words that are reached one at a time: those of the home's run up to the end of its group, and of the cell before it.
     ///
     /// It ends and stays within the region whatever it finds, also where the words are of no one moment and keep no map. What it
     /// reached decides its answer: whatever words agree with that and keep a map, the answer is true of that map.
@@ -119,14 +119,15 @@ impl<const W: u32, const F: u32> Region<W, F> {
         requires quotient { quotient < 2 ^ self.now.quotient }
         requires kept { (keys : List Key) × KeepsMap self.now words.old keys }
         ensures answer { (keys : List Key) → KeepsMap self.now words.old keys → Answered result self.now keys home quotient words.new }
-        ensures near { InOneRun self.now.cells (cell_at self.now words.old) (cell_at self.now words.new) home }
+        ensures others { InOneRun self.now.cells (cell_at self.now words.old) (cell_at self.now words.new) home }
         ensures kept { (keys : List Key) × KeepsMap self.now words.new keys }
         ensures unchanged { MatchResult result (λ fresh. MatchBool fresh ⊤ (words.new ≡ words.old)) (λ _. words.new ≡ words.old) }
     {
         self.insert_in(&mut SliceWriter { words }, home, quotient)
     }
 
-    /// `insert` into words that are reached one at a time: those of the cells of the home's run, and of the free cell beside it. It puts only words that change.
+    /// `insert` into words that are reached one at a time: those of the home's run, and of the cell on either side of it. It puts only words that change, and
+    /// only cells of the run change.
     pub fn insert_in<A: WriteWords>(
         &self,
         access: &mut A,
@@ -138,7 +139,8 @@ impl<const W: u32, const F: u32> Region<W, F> {
         requires quotient { quotient < 2 ^ self.now.quotient }
         requires kept { (keys : List Key) × KeepsMap self.now (A.words access.old) keys }
         ensures answer { (keys : List Key) → KeepsMap self.now (A.words access.old) keys → Answered result self.now keys home quotient (A.words access.new) }
-        ensures near { InOneRun self.now.cells (cell_at self.now (A.words access.old)) (cell_at self.now (A.words access.new)) home }
+        ensures others { InOneRun self.now.cells (cell_at self.now (A.words access.old)) (cell_at self.now (A.words access.new)) home }
+        ensures near { ReachesRun (A.reached access.old) (A.reached access.new) self.now (cell_at self.now (A.words access.old)) home }
         ensures kept { (keys : List Key) × KeepsMap self.now (A.words access.new) keys }
         ensures unchanged { MatchResult result (λ fresh. MatchBool fresh ⊤ (A.words access.new ≡ A.words access.old)) (λ _. A.words access.new ≡ A.words access.old) }
         ensures words { A.spans access.new (word_count self.now) }

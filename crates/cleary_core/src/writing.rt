@@ -1,4 +1,5 @@
-ghost use Rattle.std.specs.Prelude.{◌≡◌, ◌≢◌, ℕ, suc, true, ◌+◌, ◌-◌, ◌*◌, ◌^◌, ◌<◌, ◌≤◌, length, slice_index, slice_set};
+ghost use Rattle.std.specs.Prelude.{◌≡◌, ◌≢◌, ◌⊎◌, ℕ, suc, true, ◌+◌, ◌-◌, ◌*◌, ◌^◌, ◌<◌, ◌≤◌, length, slice_index, slice_set};
+ghost use Rattle.cleary_core.specs.Access.{Reaches};
 ghost use Rattle.cleary_core.specs.Cells.{width, IsRegion, Small, cell_at, word_count, carried};
 ghost use Rattle.cleary_core.specs.Change.{Put, ShiftedUp, ShiftedDown};
 
@@ -15,6 +16,7 @@ fn word_at<A: WriteWords>(sizes: &Sizes, access: &mut A, place: usize) -> u64
     ensures value { slice_index (A.words access.old) place ≡ result }
     ensures same { A.words access.new ≡ A.words access.old }
     ensures words { A.spans access.new (word_count sizes.now) }
+    ensures only { (i m : ℕ) → A.reached access.new i m → A.reached access.old i m ⊎ (i ≡ place) }
     ensures writes { A.writes access.old access.new }
 {
     access.get(place)
@@ -28,6 +30,7 @@ fn set_word<A: WriteWords>(sizes: &Sizes, access: &mut A, place: usize, had: u64
     requires had { slice_index (A.words access.old) place ≡ had }
     ensures put { A.words access.new ≡ slice_set (A.words access.old) place value }
     ensures words { A.spans access.new (word_count sizes.now) }
+    ensures only { (i m : ℕ) → A.reached access.new i m → A.reached access.old i m ⊎ (i ≡ place) }
     ensures writes { A.writes access.old access.new }
 {
     if value != had {
@@ -45,6 +48,7 @@ pub(crate) fn own_cell<A: WriteWords>(sizes: &Sizes, access: &mut A, i: u64) -> 
     ensures small { Small sizes.now result }
     ensures same { A.words access.new ≡ A.words access.old }
     ensures words { A.spans access.new (word_count sizes.now) }
+    ensures near { Reaches (A.reached access.old) (A.reached access.new) sizes.now i (suc i) }
     ensures writes { A.writes access.old access.new }
 {
     read_cell(sizes, access, i)
@@ -59,6 +63,7 @@ pub(crate) fn write_cell<A: WriteWords>(sizes: &Sizes, access: &mut A, i: u64, c
     ensures words { A.spans access.new (word_count sizes.now) }
     ensures here { cell_at sizes.now (A.words access.new) i ≡ cell }
     ensures others { (j : ℕ) → j ≢ i → cell_at sizes.now (A.words access.new) j ≡ cell_at sizes.now (A.words access.old) j }
+    ensures near { Reaches (A.reached access.old) (A.reached access.new) sizes.now i (suc i) }
     ensures writes { A.writes access.old access.new }
 {
     let at = start_of(sizes, i);
@@ -88,6 +93,7 @@ pub(crate) fn put_alone<A: WriteWords>(sizes: &Sizes, access: &mut A, home: u64,
     requires small { quotient < 2 ^ sizes.now.quotient }
     ensures words { A.spans access.new (word_count sizes.now) }
     ensures put { Put (cell_at sizes.now (A.words access.old)) (cell_at sizes.now (A.words access.new)) home home quotient true }
+    ensures near { Reaches (A.reached access.old) (A.reached access.new) sizes.now home (suc home) }
     ensures writes { A.writes access.old access.new }
 {
     let cell = Cell {
@@ -115,6 +121,7 @@ pub(crate) fn put_key<A: WriteWords>(
     requires small { quotient < 2 ^ sizes.now.quotient }
     ensures words { A.spans access.new (word_count sizes.now) }
     ensures put { Put (cell_at sizes.now (A.words access.old)) (cell_at sizes.now (A.words access.new)) place home quotient fresh }
+    ensures near { (low high : ℕ) → low ≤ place → place < high → low ≤ home → home < high → Reaches (A.reached access.old) (A.reached access.new) sizes.now low high }
     ensures writes { A.writes access.old access.new }
 {
     let before = own_cell(sizes, access, place);
@@ -145,6 +152,7 @@ pub(crate) fn shift_up<A: WriteWords>(sizes: &Sizes, access: &mut A, place: u64,
     requires inside { (place ≤ free) × (free < sizes.now.cells) }
     ensures words { A.spans access.new (word_count sizes.now) }
     ensures shifted { ShiftedUp (cell_at sizes.now (A.words access.old)) (cell_at sizes.now (A.words access.new)) place free }
+    ensures near { Reaches (A.reached access.old) (A.reached access.new) sizes.now place (suc free) }
     ensures writes { A.writes access.old access.new }
 {
     let mut here = own_cell(sizes, access, free);
@@ -172,6 +180,7 @@ pub(crate) fn shift_down<A: WriteWords>(sizes: &Sizes, access: &mut A, free: u64
     requires inside { (free ≤ place) × (place < sizes.now.cells) }
     ensures words { A.spans access.new (word_count sizes.now) }
     ensures shifted { ShiftedDown (cell_at sizes.now (A.words access.old)) (cell_at sizes.now (A.words access.new)) free place }
+    ensures near { Reaches (A.reached access.old) (A.reached access.new) sizes.now free (suc place) }
     ensures writes { A.writes access.old access.new }
 {
     let mut there = own_cell(sizes, access, free);

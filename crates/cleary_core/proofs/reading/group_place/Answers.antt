@@ -1,4 +1,4 @@
-use Rattle.std.proofs.Common.{◌≡◌, ◌-◌, ◌+◌, ℕ, suc, subst, arith, ◌<◌, ◌≤◌}
+use Rattle.std.proofs.Common.{◌≡◌, ◌-◌, ◌+◌, ℕ, suc, subst, arith}
 use Rattle.cleary_core.specs.Cells.{cell_at}
 use Rattle.cleary_core.proofs.Fronting.{Passed, passed_start, passed_more, passed_all}
 use Rattle.cleary_core.proofs.Reaching.{earlier, nowhere, onward, widen}

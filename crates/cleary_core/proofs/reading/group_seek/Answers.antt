@@ -1,4 +1,4 @@
-use Rattle.std.proofs.Common.{◌<◌, ◌≤◌, ◌∙◌, ℕ, sym, ap, ⊎_elim, arith, suc, ◌+◌, ◌-◌, ◌≡◌}
+use Rattle.std.proofs.Common.{◌<◌, ◌≤◌, ◌∙◌, ℕ, sym, ap, ⊎_elim, arith, suc, ◌+◌}
 use Rattle.std.proofs.lemmas.Bool.{cases_lt}
 use Rattle.cleary_core.specs.Access.{Agrees}
 use Rattle.cleary_core.specs.Cells.{cell_at}

@@ -1,5 +1,5 @@
 use Rattle.cleary_core.proofs.Reaching.{first_word, second_word}
-use Rattle.std.proofs.Common.{inl, inr, ⊎_elim, ◌<◌, ◌^◌, ◌/◌, ◌%◌, ◌+◌, ◌∙◌, ℕ, [], ◌∷◌, sym, ap, subst, arith, ◌≡◌, ◌-◌, ◌≤◌}
+use Rattle.std.proofs.Common.{inl, inr, ⊎_elim, ◌<◌, ◌^◌, ◌/◌, ◌%◌, ◌+◌, ◌∙◌, ℕ, [], ◌∷◌, sym, ap, subst, arith, ◌≡◌}
 use Rattle.packed_word.proofs.FieldBits.{field_below}
 use Rattle.cleary_core.specs.Cells.{width, word_count, unpacked}
 use Rattle.cleary_core.proofs.Packing.{cell_inside, in_one, in_two}

@@ -1,4 +1,5 @@
 use Rattle.std.proofs.Common.{◌≡◌, ◌<◌, ◌≤◌, ℕ, suc}
+use Rattle.cleary_core.specs.Access.{Reaches}
 use Rattle.cleary_core.specs.Cells.{cell_at, carried, word_count}
 use Rattle.cleary_core.proofs.writing.shift_up.Given as goal
 
@@ -12,6 +13,7 @@ invariant-loop-at g l = record {
   below : (j : ℕ) → j ≤ l.at → cell_at l.sizes (g.A.WriteWords.words l.access) j ≡ cell_at l.sizes (g.A.WriteWords.words l.fn.access) j;
   moved : (j : ℕ) → l.at ≤ j → j < l.free → cell_at l.sizes (g.A.WriteWords.words l.access) (suc j) ≡ carried (cell_at l.sizes (g.A.WriteWords.words l.fn.access) (suc j)).virgin (cell_at l.sizes (g.A.WriteWords.words l.fn.access) j);
   above : (j : ℕ) → l.free < j → cell_at l.sizes (g.A.WriteWords.words l.access) j ≡ cell_at l.sizes (g.A.WriteWords.words l.fn.access) j;
+  near : Reaches (g.A.ReadWords.reached l.fn.access) (g.A.ReadWords.reached l.access) l.sizes l.place (suc l.free);
 }
 
 abbrev pub decreases-loop-at : goal.decreases-loop-at

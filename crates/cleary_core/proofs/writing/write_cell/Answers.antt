@@ -1,7 +1,8 @@
-use Rattle.std.proofs.Common.{◌≡◌, ◌/◌, ◌+◌, ◌∙◌, ℕ, [], ◌∷◌, List, get_or, set, sym, ap, subst, arith}
+use Rattle.std.proofs.Common.{◌≡◌, ◌/◌, ◌+◌, ◌∙◌, ℕ, [], ◌∷◌, List, get_or, set, sym, ap, subst, arith, suc, refl}
 use Rattle.cleary_core.specs.Cells.{word_count}
 use Rattle.cleary_core.proofs.Packing.{cell_inside}
 use Rattle.cleary_core.proofs.Splicing.{Wrote, wrote_one, wrote_two}
+use Rattle.cleary_core.proofs.Reaching.{at_word, first_word, second_word, onward}
 use Rattle.cleary_core.proofs.writing.write_cell.Goals as goal
 use Rattle.cleary_core.proofs.writing.write_cell.Goals.{After-set_word, After-set_word-3}
 
@@ -65,3 +66,22 @@ returns-clause-here g c = (wrote_both g c).here
 
 pub returns-clause-others : goal.returns-clause-others
 returns-clause-others g c = (wrote_both g c).others
+
+pub returns-then-offset-bits-le64-clause-near : goal.returns-then-offset-bits-le64-clause-near
+returns-then-offset-bits-le64-clause-near g c =
+    let has = first_word c.args.sizes.now c.args.i c.start_of-at.result (c.start_of-at.result / 64) c.start_of-at.ensures.value refl in
+    onward (g.A.ReadWords.reached c.args.access.now) (g.A.ReadWords.reached c.word_at-low.new.access) (g.A.ReadWords.reached c.set_word.new.access) c.args.sizes.now c.args.i (suc c.args.i)
+    (at_word (g.A.ReadWords.reached c.args.access.now) (g.A.ReadWords.reached c.word_at-low.new.access) c.args.sizes.now c.args.i (suc c.args.i) (c.start_of-at.result / 64) c.word_at-low.ensures.only has)
+    (at_word (g.A.ReadWords.reached c.word_at-low.new.access) (g.A.ReadWords.reached c.set_word.new.access) c.args.sizes.now c.args.i (suc c.args.i) (c.start_of-at.result / 64) c.set_word.ensures.only has)
+
+pub returns-clause-near : goal.returns-clause-near
+returns-clause-near g c =
+    let has = first_word c.args.sizes.now c.args.i c.start_of-at.result (c.start_of-at.result / 64) c.start_of-at.ensures.value refl in
+    let too = second_word c.args.sizes.now c.args.i c.start_of-at.result (c.start_of-at.result / 64 + 1) c.start_of-at.ensures.value refl (omega (arith, c.if-offset-bits-le64.false)) in
+    onward (g.A.ReadWords.reached c.args.access.now) (g.A.ReadWords.reached c.set_word-2.new.access) (g.A.ReadWords.reached c.set_word-3.new.access) c.args.sizes.now c.args.i (suc c.args.i)
+    (onward (g.A.ReadWords.reached c.args.access.now) (g.A.ReadWords.reached c.word_at-high.new.access) (g.A.ReadWords.reached c.set_word-2.new.access) c.args.sizes.now c.args.i (suc c.args.i)
+    (onward (g.A.ReadWords.reached c.args.access.now) (g.A.ReadWords.reached c.word_at-low.new.access) (g.A.ReadWords.reached c.word_at-high.new.access) c.args.sizes.now c.args.i (suc c.args.i)
+    (at_word (g.A.ReadWords.reached c.args.access.now) (g.A.ReadWords.reached c.word_at-low.new.access) c.args.sizes.now c.args.i (suc c.args.i) (c.start_of-at.result / 64) c.word_at-low.ensures.only has)
+    (at_word (g.A.ReadWords.reached c.word_at-low.new.access) (g.A.ReadWords.reached c.word_at-high.new.access) c.args.sizes.now c.args.i (suc c.args.i) (c.start_of-at.result / 64 + 1) c.word_at-high.ensures.only too))
+    (at_word (g.A.ReadWords.reached c.word_at-high.new.access) (g.A.ReadWords.reached c.set_word-2.new.access) c.args.sizes.now c.args.i (suc c.args.i) (c.start_of-at.result / 64) c.set_word-2.ensures.only has))
+    (at_word (g.A.ReadWords.reached c.set_word-2.new.access) (g.A.ReadWords.reached c.set_word-3.new.access) c.args.sizes.now c.args.i (suc c.args.i) (c.start_of-at.result / 64 + 1) c.set_word-3.ensures.only too)

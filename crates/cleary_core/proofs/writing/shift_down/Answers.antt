@@ -1,0 +1,51 @@
+use Rattle.std.proofs.Common.{◌≡◌, ◌≢◌, ◌+◌, ◌∙◌, ℕ, suc, sym, ap, ⊎_elim, arith}
+use Rattle.cleary_core.specs.Cells.{cell_at, carried}
+use Rattle.cleary_core.specs.declared.cells.Cell.{Cell}
+use Rattle.cleary_core.proofs.Reaching.{onward, widen}
+use Rattle.cleary_core.proofs.Slots.{cases_same}
+use Rattle.cleary_core.proofs.writing.shift_down.Goals as goal
+
+pub loop-at-init : goal.loop-at-init
+loop-at-init g c = record {
+  low = omega arith;
+  high = c.requires.inside.0;
+  words = c.own_cell-there.ensures.words;
+  writes = c.own_cell-there.ensures.writes;
+  there = c.own_cell-there.ensures.value ∙ ap (λ w. cell_at c.args.sizes.now w c.args.free) (sym c.own_cell-there.ensures.same);
+  below = λ j a. ap (λ w. cell_at c.args.sizes.now w j) c.own_cell-there.ensures.same;
+  moved = λ j a b. absurd (omega arith);
+  above = λ j a. ap (λ w. cell_at c.args.sizes.now w j) c.own_cell-there.ensures.same;
+  near = widen (g.A.ReadWords.reached c.args.access.now) (g.A.ReadWords.reached c.own_cell-there.new.access) c.args.sizes.now c.args.free (suc c.args.free) c.args.free (suc c.args.place) (omega arith) (omega (arith, c.requires.inside)) c.own_cell-there.ensures.near;
+}
+
+pub loop-at-preserved : goal.loop-at-preserved
+loop-at-preserved g c =
+    let at : ℕ = c.loop-at.at in
+    let before = c.loop-at.invariant in
+    let low = before.low in
+    let high = before.high in
+    let read = c.own_cell-right in
+    let put = c.write_cell in
+    let off : (j : ℕ) → j ≢ c.loop-at.at → cell_at c.args.sizes.now (g.A.WriteWords.words put.new.access) j ≡ cell_at c.args.sizes.now (g.A.WriteWords.words c.loop-at.access) j
+    = λ j ne. put.ensures.others j ne ∙ ap (λ w. cell_at c.args.sizes.now w j) read.ensures.same in
+    record {
+      low = omega arith;
+      high = omega (arith, c.loop-at-test.true);
+      words = put.ensures.words;
+      writes = g.met.A.WriteWords.links c.args.access.now read.new.access put.new.access (g.met.A.WriteWords.links c.args.access.now c.loop-at.access read.new.access before.writes read.ensures.writes) put.ensures.writes;
+      there = read.ensures.value ∙ sym (off (at + 1) (λ e. omega arith));
+      below = λ j a. off j (λ e. omega arith) ∙ before.below j a;
+      moved = λ j a b. ⊎_elim
+          (λ (last : j ≡ at).
+          ap (λ m. cell_at c.args.sizes.now (g.A.WriteWords.words put.new.access) m) last ∙ put.ensures.here
+          ∙ ap (λ (x : Cell). carried x.virgin c.own_cell-right.result) (before.there ∙ before.above at (omega arith) ∙ ap (λ m. cell_at c.args.sizes.now (g.A.WriteWords.words c.args.access.now) m) (sym last))
+          ∙ ap (λ (x : Cell). carried (cell_at c.args.sizes.now (g.A.WriteWords.words c.args.access.now) j).virgin x)
+          (read.ensures.value ∙ before.above (at + 1) (omega arith) ∙ ap (λ m. cell_at c.args.sizes.now (g.A.WriteWords.words c.args.access.now) m) (omega arith)))
+          (λ (earlier : j ≢ at). off j earlier ∙ before.moved j a (omega arith))
+          (cases_same j at);
+      above = λ j a. off j (λ e. omega arith) ∙ before.above j (omega arith);
+      near = onward (g.A.ReadWords.reached c.args.access.now) (g.A.ReadWords.reached read.new.access) (g.A.ReadWords.reached put.new.access) c.args.sizes.now c.args.free (suc c.args.place)
+          (onward (g.A.ReadWords.reached c.args.access.now) (g.A.ReadWords.reached c.loop-at.access) (g.A.ReadWords.reached read.new.access) c.args.sizes.now c.args.free (suc c.args.place) before.near
+          (widen (g.A.ReadWords.reached c.loop-at.access) (g.A.ReadWords.reached read.new.access) c.args.sizes.now (at + 1) (suc (at + 1)) c.args.free (suc c.args.place) (omega arith) (omega (arith, c.loop-at-test.true)) read.ensures.near))
+          (widen (g.A.ReadWords.reached read.new.access) (g.A.ReadWords.reached put.new.access) c.args.sizes.now at (suc at) c.args.free (suc c.args.place) low (omega (arith, c.loop-at-test.true)) put.ensures.near);
+    }
