@@ -1,11 +1,11 @@
 -- The buckets of a line, and what a load of one tells.
-use Rattle.std.proofs.Common.{◌≡◌, ◌≢◌, ◌⊎◌, ℕ, ◌+◌, ◌*◌, ◌-◌, ◌%◌, ◌^◌, ◌<◌, ◌≤◌, Bool, true, refl, sym, ap, ◌∙◌, subst, ⊎_elim, arith, Option, Some, None}
+use Rattle.std.proofs.Common.{◌≡◌, ◌≢◌, ℕ, ◌+◌, ◌*◌, ◌-◌, ◌%◌, ◌^◌, ◌<◌, ◌≤◌, sym, ap, ◌∙◌, subst, ⊎_elim, arith, Option, Some, None}
 use Rattle.std.specs.Prelude.{MatchOption}
 use Rattle.std.proofs.lemmas.Nat.{mod_low}
 use Rattle.packed_word.specs.Word.{pair_of, left_of, right_of}
 use Rattle.packed_word.proofs.Parts.{split_power, kept_pair}
 use Rattle.tree_shape.specs.Tree.{Has}
-use Rattle.probe_path.specs.Path.{Course, bucket_at, path_length, walked_lines}
+use Rattle.probe_path.specs.Path.{Course, bucket_at, walked_lines}
 use Rattle.pair_rule.specs.declared.view.View.{View}
 use Rattle.pair_rule.specs.declared.sizes.About.{About}
 use Rattle.pair_rule.specs.View.{node_word, learned, begun}

@@ -1,10 +1,9 @@
 -- How a pass and its view change by the steps of a probe.
-use Rattle.std.proofs.Common.{◌≡◌, ◌≢◌, ◌⊎◌, ℕ, suc, ◌+◌, ◌-◌, ◌*◌, ◌<◌, ◌≤◌, List, [], ◌∷◌, length, drop, get_or, Bool, true, false, refl, sym, ap, ◌∙◌, subst, inl, inr, ⊎_elim, arith, add-zero}
+use Rattle.std.proofs.Common.{◌≡◌, ◌≢◌, ℕ, suc, ◌+◌, ◌^◌, ◌<◌, ◌≤◌, List, ◌∷◌, length, drop, get_or, Bool, true, refl, sym, ap, ◌∙◌, subst, inl, inr, ⊎_elim, arith, add-zero}
 use Rattle.std.proofs.lemmas.Nat.{pow_below}
 use mathlib.Core.Logic.{dite}
 use native.Mathlib.Decide.{ℕ_discrete}
 use Rattle.atomic_table.specs.Seated.{TableId}
-use Rattle.atomic_table.specs.declared.shared.Seat.{Seat}
 use Rattle.tree_shape.specs.Tree.{Has, IsPart, Stands}
 use Rattle.tree_shape.proofs.Trees.{stands_more}
 use Rattle.tdb_base.specs.History.{History}
@@ -12,12 +11,12 @@ use Rattle.pair_rule.specs.declared.view.View.{View}
 use Rattle.pair_rule.specs.declared.sizes.About.{About}
 use Rattle.pair_rule.specs.declared.pass.PassOf.{PassOf}
 use Rattle.pair_rule.specs.Numbers.{Face}
-use Rattle.pair_rule.specs.View.{face, Grown, node_word, gained, learned, begun, published}
-use Rattle.pair_rule.specs.Paths.{Buckets, node_buckets, size, bucket, IsPair, Passed, Listed}
-use Rattle.pair_rule.specs.Rest.{Sound, SeatRests, AtRest, names_of_callers}
+use Rattle.pair_rule.specs.View.{Grown, node_word, gained, learned, begun, published}
+use Rattle.pair_rule.specs.Paths.{Buckets, node_buckets, size, bucket, IsPair}
+use Rattle.pair_rule.specs.Rest.{Sound, AtRest, names_of_callers}
 use Rattle.pair_rule.specs.Plays.{IsWord}
 use Rattle.pair_rule.proofs.Steps.{gained_none, gained_pair}
-use Rattle.pair_nodes.specs.Probe.{pair_of_word, IsNodeWord, HasPassed, Probed, PutAt, Underway, Ended, KeepsTree}
+use Rattle.pair_nodes.specs.Probe.{pair_of_word, IsNodeWord, HasPassed, Probed, Underway, Ended, KeepsTree}
 
 pub buckets_small : (b : Buckets) → b.d ≤ 25 → size b < 67108864
 unfolding size
@@ -47,6 +46,7 @@ rests_step {T} roots house told table about p q n r same slots g olds sound made
       marks_length = ap (λ l. length l.items) marks ∙ r.marks_length;
       last = λ has position low high. subst (λ l. Stands about.width about.slots u.known (drop about.slots l.items) position (get_or l.items position 0)) (sym last)
           (stands_more about.width about.slots v.known u.known (drop about.slots p.last_tree.items) position (get_or p.last_tree.items position 0) g.known (r.last (sym tree ∙ has) position low high));
+      last_slots = λ has slot low. subst (λ l. get_or l.items (about.slots + slot) 0 < 2 ^ about.width) (sym last) (r.last_slots (sym tree ∙ has) slot low);
       nodes_count = nodes ∙ (let a = r.nodes_count in omega (arith, a, made));
       names_count = names ∙ (r.names_count ∙ ((λ i. names_of_callers (sym numbers i) v.seen) ∙ ap (names_of_callers u.numbers) (sym g.seen)));
     }
@@ -138,8 +138,8 @@ module _ {T : Type 0} where
   }
 
   -- the pair was put there, or another caller had put it there
-  pub settle_wins : (v w : View T) (at pair : ℕ) → w ≡ published at pair v → Ended pair at 0 v w
-  settle_wins v w at pair is = subst (Ended pair at 0 v) (sym is) record { put_at = record { grown = published_grown at pair v; made = inr refl; probes_are = sym (add-zero v.probes) }; there = inl refl }
+  pub settle_wins : (v w : View T) (at pair : ℕ) → ((y : ℕ) → Has (at, y) v.known → ⊥) → w ≡ published at pair v → Ended pair at 0 v w
+  settle_wins v w at pair free is = subst (Ended pair at 0 v) (sym is) record { put_at = record { grown = published_grown at pair v; made = inr (refl, free); probes_are = sym (add-zero v.probes) }; there = inl refl }
 
   pub settle_meets : (about : About) (v w : View T) (at found word : ℕ) → w ≡ learned at found v → IsWord about found → found ≡ word → IsNodeWord about word → Ended (pair_of_word word) at 0 v w
   settle_meets about v w at found word gained there same node = subst (Ended (pair_of_word word) at 0 v) (sym gained) record {
@@ -159,7 +159,10 @@ module _ {T : Type 0} where
   ended_then pair at a b u v w p o = record {
     put_at = record {
       grown = grown_trans u v w p.grown o.put_at.grown;
-      made = ⊎_elim (λ (z : w.made ≡ v.made). inl (z ∙ p.made)) (λ (z : w.made ≡ at ∷ v.made). inr (z ∙ ap (λ (l : List ℕ). at ∷ l) p.made)) o.put_at.made;
+      made = ⊎_elim
+          (λ (z : w.made ≡ v.made). inl (z ∙ p.made))
+          (λ (z : (w.made ≡ at ∷ v.made) × ((y : ℕ) → Has (at, y) v.known → ⊥)). inr (z.0 ∙ ap (λ (l : List ℕ). at ∷ l) p.made, (λ y h. z.1 y (p.grown.known at y h))))
+          o.put_at.made;
       probes_are = let x = p.probes_are in let y = o.put_at.probes_are in omega arith;
     };
     there = o.there;

@@ -32,10 +32,10 @@ module _ {T : Type 0} where
     pub made : new.made ≡ old.made
     pub probes_are : new.probes ≡ old.probes + probes
 
-  -- the same, but the pair at the index may be one that it put there
+  -- the same, but the pair at the index may be one that it put there, where it knew none
   pub record PutAt (index probes : ℕ) (old new : View T) : Type 0 where
     pub grown : Grown old new
-    pub made : (new.made ≡ old.made) ⊎ (new.made ≡ index ∷ old.made)
+    pub made : (new.made ≡ old.made) ⊎ ((new.made ≡ index ∷ old.made) × ((pair : ℕ) → Has (index, pair) old.known → ⊥))
     pub probes_are : new.probes ≡ old.probes + probes
 
   -- so many probes began; the last one has met `count` buckets, all with other pairs

@@ -65,6 +65,7 @@ pub(crate) fn put<R: RootPart<W, F>, const W: u32, const F: u32>(
     ensures won { result ≡ 0 → view pass.new ≡ published at (pair_of_word word) (view pass.old) }
     ensures lost { result ≢ 0 → view pass.new ≡ learned at result (view pass.old) }
     ensures word { IsWord table.now.about result }
+    ensures free { result ≡ 0 → (pair : ℕ) → Has (at, pair) (view pass.old).known → ⊥ }
     ensures tree { KeepsTree pass.old pass.new }
 {
     let shared = &table.table().shared;

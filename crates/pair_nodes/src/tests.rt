@@ -10,7 +10,7 @@ use std::process::Abort;
 use std::test::Fail;
 use std::thread;
 use std::thread::Threads;
-use tdb_base::{Kept, NoMemory, Silent, Steps};
+use tdb_base::{Kept, Ledger, NoMemory, Silent, Steps};
 
 // All lines of a path are walked.
 const SIZES_OF_8: Sizes = Sizes {
@@ -28,22 +28,22 @@ const SIZES_OF_64: Sizes = Sizes {
 };
 
 // Puts so many of the pairs (0, 0) to (0, 11), from one of them on and around, and keeps the answers.
-fn put_pairs<R: RootPart<W, F>, const W: u32, const F: u32>(
+fn put_pairs<L: Ledger, R: RootPart<W, F>, const W: u32, const F: u32>(
     nodes: &Nodes<R, W, F>,
     pass: &mut Pass<R, W, F>,
     begins: u64,
     count: u64,
     answers: &mut [Option<u64>; 12],
+    steps: &mut Steps<L>,
 )
     requires rest { AtRest R.roots R.house R.told nodes.now.table.table.shared.table_id nodes.now.table.about pass.old }
     requires wide { 12 ≤ 2 ^ W }
     ensures { AtRest R.roots R.house R.told nodes.now.table.table.shared.table_id nodes.now.table.about pass.new }
 {
     let count = count.min(12).max(1);
-    let mut steps = Steps::new(Silent);
     for turn in 0..count {
         let right = (begins % 12 + turn) % count;
-        answers[right as usize] = nodes.find_or_put(pass, 0, right, &mut steps).ok();
+        answers[right as usize] = nodes.find_or_put(pass, 0, right, steps).ok();
     }
 }
 
@@ -75,12 +75,14 @@ fn put_at_once<H: Threads + Sync>(
                 requires { AtRest no_roots no_house NobodyCalled nodes.now.table.table.shared.table_id nodes.now.table.about caller.now.pass }
                 ensures { AtRest no_roots no_house NobodyCalled nodes.entry.now.table.table.shared.table_id nodes.entry.now.table.about caller.exit.now.pass }
             {
-                put_pairs::<NoRoot, 16, 8>(
+                let mut steps = Steps::new(Silent);
+                put_pairs::<Silent, NoRoot, 16, 8>(
                     nodes,
                     &mut caller.pass,
                     caller.begins,
                     pairs,
                     &mut caller.answers,
+                    &mut steps,
                 );
             },
         );
@@ -156,7 +158,15 @@ fn fills_up(rt: HostRuntime) -> Result<(), Fail> {
         begins: 0,
         answers: [None; 12],
     };
-    put_pairs::<NoRoot, 16, 8>(&nodes, &mut caller.pass, 0, 12, &mut caller.answers);
+    let mut steps = Steps::new(Silent);
+    put_pairs::<Silent, NoRoot, 16, 8>(
+        &nodes,
+        &mut caller.pass,
+        0,
+        12,
+        &mut caller.answers,
+        &mut steps,
+    );
     for (i, answer) in caller.answers.iter().enumerate() {
         assert!(rt; answer.is_some() == (i < 8));
     }
@@ -172,12 +182,13 @@ fn ticks_when_full(rt: HostRuntime) -> Result<(), Fail> {
     let (table, mut pass) = PairTable::<NoRoot, 16, 8>::create(rt.alloc(), &SIZES_OF_8, 4)?;
     let nodes = Nodes::over(table);
     let mut answers = [None; 12];
-    put_pairs::<NoRoot, 16, 8>(&nodes, &mut pass, 0, 12, &mut answers);
     let mut steps = Steps::new(Kept { shown: 0 });
+    put_pairs::<Kept, NoRoot, 16, 8>(&nodes, &mut pass, 0, 12, &mut answers, &mut steps);
+    assert!(rt; steps.shown() == 12);
     assert!(rt; nodes.find_or_put(&mut pass, 0, 8, &mut steps).is_err());
-    assert!(rt; steps.shown() == 1);
+    assert!(rt; steps.shown() == 13);
     assert!(rt; nodes.find_or_put(&mut pass, 0, 7, &mut steps) == answers[7].ok_or(NodesFull));
-    assert!(rt; steps.shown() == 2);
+    assert!(rt; steps.shown() == 14);
     Ok(())
 }
 

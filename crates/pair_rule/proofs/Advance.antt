@@ -1,18 +1,18 @@
 -- Steps on a root word, as far as the nodes, the numbers and the calls go: the stepping view changes its root part alone, or it catches up and may make calls.
-use Rattle.std.proofs.Common.{◌≡◌, ◌≢◌, ◌⊎◌, ℕ, suc, ◌+◌, ◌<◌, ◌≤◌, List, [], ◌∷◌, ◌++◌, length, map, drop, set, Bool, true, false, refl, sym, ap, ◌∙◌, subst, inl, inr, ⊎_elim, arith}
+use Rattle.std.proofs.Common.{◌≡◌, ◌≢◌, ℕ, suc, ◌<◌, List, [], ◌++◌, length, map, drop, set, Bool, true, refl, sym, ◌∙◌, subst, ⊎_elim}
 use mathlib.Core.Option.{some}
 use lib.ListN.{get_elem?}
 use Rattle.atomic_table.specs.Table.{State}
 use Rattle.atomic_table.proofs.Lists.{at_set, at_map}
 use Rattle.tree_shape.specs.Tree.{Has, IsPart}
-use Rattle.tdb_base.specs.History.{Entry, History, calls}
-use Rattle.tdb_base.specs.Legal.{IsLegal, Extends}
+use Rattle.tdb_base.specs.History.{Entry, History}
+use Rattle.tdb_base.specs.Legal.{IsLegal}
 use Rattle.pair_rule.specs.declared.view.View.{View}
 use Rattle.pair_rule.specs.declared.sizes.About.{About}
 use Rattle.pair_rule.specs.View.{face, made_of}
 use Rattle.pair_rule.specs.Paths.{node_buckets, size}
 use Rattle.pair_rule.specs.Rule.{IsNode, at, Filled, Made, Named, Fits, Numbers, Callers, Kept}
-use Rattle.pair_rule.specs.Rest.{AreNodes, Sound}
+use Rattle.pair_rule.specs.Rest.{AreNodes}
 use Rattle.pair_rule.specs.Plays.{Caught}
 use Rattle.pair_rule.proofs.Lists.{has_back, has_either, set_got, each_set, map_same}
 use Rattle.pair_rule.proofs.Histories.{extends_refl, extends_push, extends_trans, other_calls}

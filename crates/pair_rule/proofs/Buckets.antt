@@ -1,9 +1,9 @@
 -- Buckets that are each empty or have a pair, on that pair's path.
-use Rattle.std.proofs.Common.{◌≡◌, ◌≢◌, ◌⊎◌, ℕ, ◌+◌, ◌*◌, ◌/◌, ◌%◌, ◌^◌, ◌<◌, ◌≤◌, refl, sym, ap, ◌∙◌, subst, inl, inr, ⊎_elim, arith}
+use Rattle.std.proofs.Common.{◌≡◌, ◌≢◌, ◌⊎◌, ℕ, ◌<◌, ◌≤◌, sym, ap, ◌∙◌, subst, inl, inr, ⊎_elim, arith}
 use mathlib.Core.Logic.{dite}
 use native.Mathlib.Decide.{ℕ_discrete, dec_lt}
 use Rattle.probe_path.proofs.Buckets.{bucket_at-below}
-use Rattle.pair_rule.specs.Paths.{Buckets, size, bucket, reach, IsPair, Passed, OnPath}
+use Rattle.pair_rule.specs.Paths.{Buckets, size, bucket, reach, IsPair, Passed}
 use Rattle.pair_rule.specs.Rule.{InWords, Stands, Filled}
 
 pub bucket_below : (b : Buckets) (pair step : ℕ) → 3 ≤ b.d → bucket b pair step < size b

@@ -1,5 +1,5 @@
 -- Views that caught up: one after another, and as passes between calls.
-use Rattle.std.proofs.Common.{◌≡◌, ℕ, ◌+◌, List, [], ◌∷◌, ◌++◌, length, drop, get_or, Bool, true, false, cond, refl, sym, ap, ◌∙◌, subst, ⊎_elim, eq-eqb, arith, append-nil}
+use Rattle.std.proofs.Common.{◌≡◌, ◌<◌, ◌^◌, ℕ, ◌+◌, List, [], ◌∷◌, ◌++◌, length, drop, get_or, Bool, true, false, cond, refl, sym, ap, ◌∙◌, subst, ⊎_elim, eq-eqb, arith, append-nil}
 use Rattle.std.specs.Prelude.{◌&&◌, ◌||◌, ◌==◌}
 use Rattle.std.specs.List.{list_any}
 use Rattle.std.proofs.lemmas.List.Sums.{sum_by-append}
@@ -81,6 +81,7 @@ module _ {T : Type 0} (roots : About → History → T → List (ℕ × ℕ)) (h
       marks_length = ap (λ l. length l.items) marks ∙ r.marks_length;
       last = λ has position low high. subst (λ l. Stands about.width about.slots (view q).known (drop about.slots l.items) position (get_or l.items position 0)) (sym last)
           (stands_more about.width about.slots (view p).known (view q).known (drop about.slots p.last_tree.items) position (get_or p.last_tree.items position 0) k.known (r.last (sym tree ∙ has) position low high));
+      last_slots = λ has slot low. subst (λ l. get_or l.items (about.slots + slot) 0 < 2 ^ about.width) (sym last) (r.last_slots (sym tree ∙ has) slot low);
       nodes_count = nodes ∙ (r.nodes_count ∙ ap length (sym k.made));
       names_count = names ∙ sym (names_caught p q more r k);
     }

@@ -1,19 +1,19 @@
 -- How many: numbers below a bound, and names by who gave them.
-use Rattle.std.proofs.Common.{◌≡◌, ◌≢◌, ◌⊎◌, ℕ, zero, suc, ◌+◌, ◌^◌, ◌<◌, ◌≤◌, List, [], ◌∷◌, ◌++◌, length, map, Bool, true, false, cond, refl, sym, ap, ◌∙◌, subst, inl, inr, ⊎_elim, eqb, eq-eqb, ne_eqb, arith, Option, Some, None}
-use Rattle.std.specs.Prelude.{◌&&◌, ◌||◌, ◌==◌, count_by, sum_by, filter}
+use Rattle.std.proofs.Common.{◌≡◌, ◌⊎◌, ℕ, ◌+◌, ◌<◌, ◌≤◌, List, [], ◌∷◌, ◌++◌, length, Bool, true, false, cond, refl, sym, ap, ◌∙◌, subst, inl, inr, ⊎_elim, eqb, eq-eqb, ne_eqb, arith, Some}
+use Rattle.std.specs.Prelude.{◌&&◌, ◌||◌, ◌==◌, count_by}
 use Rattle.std.specs.List.{list_any, IsDistinct, AllByRecursion}
 use Rattle.std.proofs.lemmas.Bool.{eqb-true}
-use Rattle.std.proofs.lemmas.List.Sums.{sum_by-cons, length-filter}
+use Rattle.std.proofs.lemmas.List.Sums.{sum_by-cons}
 use Rattle.std.proofs.lemmas.Map.Steps.{length-le_from_distinct_below}
 use Rattle.tree_shape.specs.Tree.{Has}
 use Rattle.tdb_base.specs.History.{Vector, Entry, History, is_fresh, name_of, calls}
 use Rattle.tdb_base.specs.Legal.{Allows, IsLegal}
 use Rattle.tdb_base.proofs.SumLemmas.{sum-both, sum-same}
 use Rattle.tdb_base.proofs.DistinctLemmas.{count-filter}
-use Rattle.tdb_base.proofs.NameLemmas.{legal-walk, legal-push, legal-nil, name-kept, name-nil, entry-named, allowed-fresh}
+use Rattle.tdb_base.proofs.NameLemmas.{legal-walk, legal-push, legal-nil, name-kept, entry-named, allowed-fresh}
 use Rattle.pair_rule.specs.Numbers.{NoRepeats}
 use Rattle.pair_rule.specs.Rest.{names_of_callers}
-use Rattle.pair_rule.proofs.Lists.{has_either, has_front, has_back, no_repeats_both, no_repeats_apart}
+use Rattle.pair_rule.proofs.Lists.{has_either, has_front, no_repeats_both}
 
 pub no_repeats_front : (xs ys : List ℕ) → NoRepeats (xs ++ ys) → NoRepeats xs
 no_repeats_front [] ys p = tt

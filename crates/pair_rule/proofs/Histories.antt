@@ -1,15 +1,11 @@
 -- Histories: fronts of one another, the longer of two, and the calls of one caller.
-use Rattle.std.proofs.Common.{◌≡◌, ◌≢◌, ◌⊎◌, ℕ, zero, suc, ◌+◌, ◌<◌, ◌≤◌, List, [], ◌∷◌, ◌++◌, length, Bool, true, false, cond, refl, sym, ap, ◌∙◌, subst, inl, inr, ⊎_elim, eqb, eq-eqb, ne_eqb, ltb, arith, append_assoc, append-nil, length-append}
-use Rattle.std.specs.Prelude.{filter, nat_lt, count_by, ◌&&◌, if◌then◌else◌}
-use Rattle.std.specs.List.{list_any}
-use Rattle.std.specs.Prelude.{◌==◌}
+use Rattle.std.proofs.Common.{◌≡◌, ◌≢◌, ◌⊎◌, ℕ, ◌≤◌, [], ◌∷◌, ◌++◌, length, Bool, true, false, cond, refl, sym, ap, ◌∙◌, subst, inl, inr, ⊎_elim, eqb, ne_eqb, arith, append_assoc, append-nil, length-append}
+use Rattle.std.specs.Prelude.{nat_lt, if◌then◌else◌}
 use Rattle.std.proofs.lemmas.Bool.{ltb-true, ltb-false}
 use Rattle.tree_shape.specs.Tree.{Has}
-use Rattle.tdb_base.specs.History.{Entry, History, calls, is_fresh}
+use Rattle.tdb_base.specs.History.{Entry, History, calls}
 use Rattle.tdb_base.specs.Legal.{IsLegal, Extends}
 use Rattle.pair_rule.specs.View.{longer}
-use Rattle.pair_rule.specs.Rest.{names_of_callers}
-use Rattle.pair_rule.proofs.Lists.{has_either}
 
 pub extends_refl : (h : History) → Extends h h
 extends_refl h = record { more = []; whole = sym (append-nil h) }

@@ -1,5 +1,5 @@
 -- Making a table, splitting and joining keep the rule, whatever its root part is.
-use Rattle.std.proofs.Common.{◌≡◌, ◌≢◌, ◌⊎◌, ℕ, zero, suc, ◌+◌, ◌<◌, ◌≤◌, List, [], ◌∷◌, ◌++◌, length, map, drop, set, Bool, true, false, true≢false, refl, sym, ap, ◌∙◌, subst, inl, inr, ⊎_elim, arith, replicate, get_or, Option, Some, None, length-append}
+use Rattle.std.proofs.Common.{◌≡◌, ◌≢◌, ◌⊎◌, ℕ, zero, suc, ◌+◌, ◌≤◌, List, [], ◌∷◌, ◌++◌, length, map, drop, set, true, false, true≢false, refl, sym, ap, ◌∙◌, subst, inl, ⊎_elim, arith, replicate, get_or, Some, length-append}
 use Rattle.std.proofs.lemmas.List.{length-replicate, length-drop}
 use mathlib.Core.Option.{some, some-injective}
 use mathlib.Core.Logic.{dite}
@@ -20,12 +20,12 @@ use Rattle.pair_rule.specs.declared.sizes.About.{About}
 use Rattle.pair_rule.specs.Numbers.{child, Face, parent_face, child_face, joint_face, no_face}
 use Rattle.pair_rule.specs.View.{longer, face, made_of, newcomer, left, right, both, nobody, old_of}
 use Rattle.pair_rule.specs.Paths.{node_buckets, size}
-use Rattle.pair_rule.specs.Rule.{IsNode, at, Made, Named, open_probes, Fits, Numbers, Callers, Holder, Kept}
+use Rattle.pair_rule.specs.Rule.{at, Made, Named, Fits, Numbers, Callers, Holder, Kept}
 use Rattle.pair_rule.proofs.Lists.{has_front, has_back, has_either, set_got, get_one, each_set, each_snoc, map_same, no_repeats_both, not_there}
 use Rattle.pair_rule.proofs.Histories.{Longer, longer_is, longer_of, extends_refl, no_longer, legal_front, calls_between, calls_none}
 use Rattle.pair_rule.proofs.Census.{child_above, numbers_split, callers_split, numbers_join, callers_join}
 use Rattle.pair_rule.proofs.Makers.{made_snoc, made_join}
-use Rattle.pair_rule.proofs.Steps.{named_more, holder_same}
+use Rattle.pair_rule.proofs.Steps.{holder_same}
 
 no_names : (about : About) (known : List (ℕ × ℕ)) (roots : List (ℕ × ℕ)) → roots ≡ [] → Named about known [] roots
 no_names about known roots none = record {
@@ -98,7 +98,7 @@ module _ {T : Type 0} (S : Type 0) (about : About) (roots : About → History �
         made = subst (Made (size (node_buckets about)) (at s.words)) (sym mades) (made_snoc (size (node_buckets about)) (at s.words) (map made_of s.views) r.made);
         each = each_snoc (λ (u : View T). Fits about (roots about) r.log (at s.words) u) (set s.views id (left v)) (right cut v)
             (each_set (λ (j : ℕ) (u : View T). Fits about (roots about) r.log (at s.words) u) s.views id (left v) r.each
-            record { about_is = f.about_is; known = f.known; made = f.made; made_once = f.made_once; probed = f.probed; seen = f.seen; own = f.own; named = f.named; olds = f.olds; spent = f.spent })
+            record { about_is = f.about_is; known = f.known; made = f.made; made_once = f.made_once; probed = f.probed; seen = f.seen; own = f.own; named = f.named; olds = f.olds; spent = λ dead. absurd (cc (live, dead)) })
             record {
               about_is = λ _. f.about_is live;
               known = f.known;
@@ -186,7 +186,7 @@ module _ {T : Type 0} (S : Type 0) (about : About) (roots : About → History �
               own = λ c h. absurd h;
               named = no_names about [] (roots about [] spent) none;
               olds = λ o h. absurd h;
-              spent = λ dead. (refl, refl);
+              spent = λ dead. (refl, refl, refl, refl);
             };
         numbers = subst Numbers (sym faces) (numbers_join (map face s.views) r.numbers id other (face v) (face w) ef eg apart);
         callers = subst (Callers r.log) (sym faces) (callers_join (map face s.views) r.numbers id other (face v) (face w) ef eg apart r.log r.callers);

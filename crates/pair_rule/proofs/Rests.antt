@@ -1,12 +1,12 @@
 -- What is known of passes between calls, as they are made, split and joined.
-use Rattle.std.proofs.Common.{◌≡◌, ◌≢◌, ◌⊎◌, ℕ, zero, suc, ◌+◌, ◌*◌, ◌^◌, ◌<◌, ◌≤◌, List, [], ◌∷◌, ◌++◌, length, drop, get_or, Bool, true, false, true≢false, refl, sym, ap, ◌∙◌, subst, inl, inr, ⊎_elim, arith, Option, Some, length-append}
+use Rattle.std.proofs.Common.{◌≡◌, ℕ, suc, ◌+◌, ◌*◌, ◌^◌, ◌<◌, ◌≤◌, List, [], ◌∷◌, ◌++◌, length, drop, get_or, false, true≢false, refl, sym, ap, ◌∙◌, subst, inl, inr, ⊎_elim, arith, length-append}
 use Rattle.std.proofs.lemmas.Nat.{pow_below}
-use Rattle.atomic_table.specs.Table.{Me, opening}
+use Rattle.atomic_table.specs.Table.{Me, Step, opening}
 use Rattle.atomic_table.specs.Seated.{TableId}
 use Rattle.atomic_table.specs.declared.shared.Seat.{Seat}
 use Rattle.tree_shape.specs.Tree.{Has, IsPart, Stands}
 use Rattle.tree_shape.proofs.Trees.{stands_more}
-use Rattle.tdb_base.specs.History.{Vector, History, name_of, calls}
+use Rattle.tdb_base.specs.History.{History, calls}
 use Rattle.tdb_base.specs.Legal.{Extends}
 use Rattle.pair_rule.specs.declared.view.View.{View}
 use Rattle.pair_rule.specs.declared.sizes.About.{About}
@@ -15,7 +15,7 @@ use Rattle.pair_rule.specs.Numbers.{child, Descends, itself, NoRepeats}
 use Rattle.pair_rule.specs.View.{newcomer, longer, left, right, both, joined, old_of}
 use Rattle.pair_rule.specs.Paths.{node_buckets, size}
 use Rattle.pair_rule.specs.Rule.{Named, Kept}
-use Rattle.pair_rule.specs.Rest.{AreNodes, Housed, Whole, HasAll, Sound, SeatRests, AtRest, names_of_callers}
+use Rattle.pair_rule.specs.Rest.{Sound, SeatRests, AtRest, names_of_callers}
 use Rattle.pair_rule.specs.Plays.{Met}
 use Rattle.pair_rule.proofs.Lists.{has_front, has_back}
 use Rattle.pair_rule.proofs.Census.{child_above, child_same, descends_above, descends_from_child}
@@ -105,8 +105,8 @@ module _ {T : Type 0} (roots : About → History → T → List (ℕ × ℕ)) (h
 
     -- after a join and the load that follows it
     pub rests_joined : (glue : T → T → T) (p q o r : Seat S (View T)) → SeatRests roots house told table about p → q.table_id ≡ p.table_id → q.me ≡ (both glue p.me.0 o.me.0, p.me.1)
-        → r.table_id ≡ q.table_id → Met roots house told q.me r.me → SeatRests roots house told table about r
-    rests_joined glue p q o r rests same is same' met = record {
+        → r.table_id ≡ q.table_id → (st : Step S) → Met roots house told st q.me r.me → SeatRests roots house told table about r
+    rests_joined glue p q o r rests same is same' st met = record {
       table_is = same' ∙ (same ∙ rests.table_is);
       bare = met.slots_stay ∙ (ap (λ (m : Me S (View T)). m.1) is ∙ rests.bare);
       live = ap (λ (v : View T). v.live) met.view_is ∙ (ap (λ (m : Me S (View T)). m.0.live) is ∙ rests.live);
@@ -116,8 +116,8 @@ module _ {T : Type 0} (roots : About → History → T → List (ℕ × ℕ)) (h
       sound = met.sound;
     }
 
-    pub view_joined : (glue : T → T → T) (p q o r : Seat S (View T)) → q.me ≡ (both glue p.me.0 o.me.0, p.me.1) → Met roots house told q.me r.me → r.me.0 ≡ joined glue p.me.0 o.me.0
-    view_joined glue p q o r is met = met.view_is ∙ ap (λ (m : Me S (View T)). record m.0 { olds = [] }) is
+    pub view_joined : (glue : T → T → T) (p q o r : Seat S (View T)) → q.me ≡ (both glue p.me.0 o.me.0, p.me.1) → (st : Step S) → Met roots house told st q.me r.me → r.me.0 ≡ joined glue p.me.0 o.me.0
+    view_joined glue p q o r is st met = met.view_is ∙ ap (λ (m : Me S (View T)). record m.0 { olds = [] }) is
 
   -- what the load that follows a join tells of both views
   pub record Both (v w u : View T) : Type 0 where
@@ -131,8 +131,8 @@ module _ {T : Type 0} (roots : About → History → T → List (ℕ × ℕ)) (h
       let second = s.olds (old_of w) (inr (inl refl)) in
       record { seen = (first.0, second.0); own = first.1; others = second.1 }
 
-  pub told_joined : {S : Type 0} (glue : T → T → T) (v w : View T) (x : List (ℕ × S)) (q r : Me S (View T)) → q ≡ (both glue v w, x) → Met roots house told q r → Both v w r.0
-  told_joined {S} glue v w x q r is met =
+  pub told_joined : {S : Type 0} (glue : T → T → T) (v w : View T) (x : List (ℕ × S)) (q r : Me S (View T)) → q ≡ (both glue v w, x) → (st : Step S) → Met roots house told st q r → Both v w r.0
+  told_joined {S} glue v w x q r is st met =
       subst (Both v w) (sym (met.view_is ∙ ap (λ (m : Me S (View T)). record m.0 { olds = [] }) is)) (both_told glue v w (subst (Sound roots house told) (ap (λ (m : Me S (View T)). m.0) is) met.joined_sound))
 
   abbrev pub Glues : (T → T → T) → About → Type 0
@@ -182,6 +182,7 @@ pass_rests roots house told table about p seat last next marks no_tree nodes nam
   next_length = next;
   marks_length = marks;
   last = λ tree. absurd (true≢false (sym tree ∙ no_tree));
+  last_slots = λ tree. absurd (true≢false (sym tree ∙ no_tree));
   nodes_count = nodes;
   names_count = names;
 }
@@ -210,6 +211,7 @@ module _ {T : Type 0} (roots : About → History → T → List (ℕ × ℕ)) (h
         marks_length = ap (λ l. length l.items) marks ∙ r.marks_length;
         last = λ has position low high. subst (λ l. Stands about.width about.slots u.known (drop about.slots l.items) position (get_or l.items position 0)) (sym last)
             (stands_more about.width about.slots v.known u.known (drop about.slots p.last_tree.items) position (get_or p.last_tree.items position 0) part (r.last (sym tree ∙ has) position low high));
+        last_slots = λ has slot low. subst (λ l. get_or l.items (about.slots + slot) 0 < 2 ^ about.width) (sym last) (r.last_slots (sym tree ∙ has) slot low);
         nodes_count = nodes ∙ (let a = r.nodes_count in omega (arith, a, length_made));
         names_count = names ∙ (let a = r.names_count in omega (arith, a, given));
       }

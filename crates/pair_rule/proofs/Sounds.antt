@@ -1,15 +1,13 @@
 -- What each step tells of the view after it.
-use Rattle.std.proofs.Common.{◌≡◌, ℕ, ◌≤◌, List, map, true, refl, sym, ap, ◌∙◌, subst, inl, inr, arith}
+use Rattle.std.proofs.Common.{◌≡◌, ℕ, List, map, true, sym, subst, inl, inr}
 use mathlib.Core.Option.{some}
 use lib.ListN.{get_elem?}
 use Rattle.atomic_table.specs.Table.{State}
 use Rattle.atomic_table.proofs.Lists.{at_map}
-use Rattle.tree_shape.specs.Tree.{Has}
-use Rattle.tdb_base.specs.History.{History, calls}
+use Rattle.tdb_base.specs.History.{History}
 use Rattle.tdb_base.specs.Legal.{IsLegal}
 use Rattle.pair_rule.specs.declared.view.View.{View}
 use Rattle.pair_rule.specs.declared.sizes.About.{About}
-use Rattle.pair_rule.specs.Numbers.{child}
 use Rattle.pair_rule.specs.View.{face}
 use Rattle.pair_rule.specs.Rule.{at, Fits, Kept}
 use Rattle.pair_rule.specs.Rest.{Whole, HasAll, Sound}

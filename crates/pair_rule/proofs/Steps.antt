@@ -1,21 +1,21 @@
 -- The steps that every store has keep the rule, whatever its root part is.
-use Rattle.std.proofs.Common.{◌≡◌, ◌≢◌, ◌⊎◌, ℕ, suc, ◌+◌, ◌-◌, ◌<◌, ◌≤◌, List, [], ◌∷◌, ◌++◌, length, map, drop, set, get_or, Bool, true, false, refl, sym, ap, ◌∙◌, subst, inl, inr, ⊎_elim, eqb, eq-eqb, ne_eqb, arith, length-set, get_or-set_same, get_or-set_other}
+use Rattle.std.proofs.Common.{◌≡◌, ◌≢◌, ℕ, suc, ◌+◌, ◌-◌, ◌<◌, ◌≤◌, List, [], ◌∷◌, length, map, set, get_or, Bool, true, refl, sym, ap, ◌∙◌, subst, inl, inr, ⊎_elim, eqb, eq-eqb, ne_eqb, arith, length-set, get_or-set_same, get_or-set_other}
 use mathlib.Core.Option.{some, none}
 use lib.ListN.{get_elem?}
 use lib.Seq.{set-get_or, map-set, drop-set-lt}
 use prog.Atomic.{either}
 use Rattle.atomic_table.specs.Table.{State, Me, Act, Valid, step, keeps, stepped, carried_after, Allows}
-use Rattle.atomic_table.proofs.Lists.{at_map, at_set, set_else, exchanged}
+use Rattle.atomic_table.proofs.Lists.{at_map, set_else, exchanged}
 use Rattle.tree_shape.specs.Tree.{Has, IsPart}
 use Rattle.tree_shape.proofs.Trees.{stands_more}
 use Rattle.tdb_base.specs.History.{History}
 use Rattle.pair_rule.specs.declared.view.View.{View}
 use Rattle.pair_rule.specs.declared.sizes.About.{About}
-use Rattle.pair_rule.specs.View.{face, made_of, Grown, node_word, gained, learned, begun, published}
-use Rattle.pair_rule.specs.Paths.{Buckets, node_buckets, size, bucket, reach, IsPair, Passed, Listed}
-use Rattle.pair_rule.specs.Rule.{IsNode, at, InWords, Stands, Filled, Made, Named, open_probes, Fits, Numbers, Callers, Holder, Kept}
+use Rattle.pair_rule.specs.View.{face, made_of, Grown, node_word, gained, learned, published}
+use Rattle.pair_rule.specs.Paths.{node_buckets, size, bucket, reach, IsPair, Passed, Listed}
+use Rattle.pair_rule.specs.Rule.{IsNode, at, Stands, Made, Named, open_probes, Fits, Numbers, Callers, Holder, Kept}
 use Rattle.pair_rule.specs.Rest.{Sound}
-use Rattle.pair_rule.specs.Plays.{IsWord, Found, look_tells, begin_tells, put_tells, Met, meet_tells}
+use Rattle.pair_rule.specs.Plays.{IsWord, Found, look_tells, begin_tells, put_tells, meet_tells}
 use Rattle.pair_rule.proofs.Lists.{set_got, get_one, each_set, map_same, at_unmap}
 use Rattle.pair_rule.proofs.Makers.{made_more}
 use Rattle.pair_rule.proofs.Buckets.{filled_put}
@@ -119,10 +119,10 @@ module _ {T : Type 0} (S : Type 0) (about : About) (roots : About → History �
         (subst (λ (ws : List ℕ). Rule record { words = ws; homes = s.homes; views = set s.views id w }) (sym (set-get_or s.words word 0)) r', sounds _ r' id w (set_got s.views id v w e) live)
 
     -- a load of a node's bucket, where the view also counts
-    looks_as : (slots id : ℕ) (me : Me S (View T)) (i word p : ℕ) (o : Bool) → suc i ≡ word → i < size (node_buckets about) → me.0.live ≡ true → me.0.about ≡ about
+    looks_as : (slots id : ℕ) (me : Me S (View T)) (i word p : ℕ) (o : Bool) → suc i ≡ word → i < size (node_buckets about) → me.0.live ≡ true → me.0.about ≡ about → me.0.olds ≡ []
         → ((made : List ℕ) → length made + open_probes me.0.probing ≤ me.0.probes → length made + open_probes o ≤ p)
         → Allows Rule slots id me word (λ n. n) (λ n m'. (m'.0 ≡ record me.0 { known = gained (word - 1) n me.0.known; probing = o; probes = p }) × Found roots house told (step slots word 0 0 none) me n m')
-    looks_as slots id me i word p o is inside live about_is enough s r sl e below =
+    looks_as slots id me i word p o is inside live about_is olds enough s r sl e below =
         let n = get_or s.words word 0 in
         let same : at s.words i ≡ n = ap (λ (k : ℕ). get_or s.words k 0) is in
         let d : i ≡ word - 1 = omega arith in
@@ -136,6 +136,7 @@ module _ {T : Type 0} (S : Type 0) (about : About) (roots : About → History �
           (
             ap (λ (m : ℕ). record me.0 { known = gained m n me.0.known; probing = o; probes = p }) d,
             record {
+              no_olds = olds;
               slots_stay = refl;
               word = subst (λ (a : About). IsWord a n) (sym about_is) (subst (IsWord about) same (word_is s r i inside));
               free = λ z x h. unknown s r id i me.0 e (same ∙ z) x (subst (λ (m : ℕ). Has (m, x) me.0.known) (sym d) h);
@@ -144,17 +145,17 @@ module _ {T : Type 0} (S : Type 0) (about : About) (roots : About → History �
           ),
         )
 
-    pub looks : (slots id : ℕ) (me : Me S (View T)) (i word : ℕ) → suc i ≡ word → i < size (node_buckets about) → me.0.live ≡ true → me.0.about ≡ about
+    pub looks : (slots id : ℕ) (me : Me S (View T)) (i word : ℕ) → suc i ≡ word → i < size (node_buckets about) → me.0.live ≡ true → me.0.about ≡ about → me.0.olds ≡ []
         → Allows Rule slots id me word (λ n. n) (look_tells roots house told (step slots word 0 0 none) me)
-    looks slots id me i word is inside live about_is = looks_as slots id me i word me.0.probes me.0.probing is inside live about_is (λ made le. le)
+    looks slots id me i word is inside live about_is olds = looks_as slots id me i word me.0.probes me.0.probing is inside live about_is olds (λ made le. le)
 
-    pub begins : (slots id : ℕ) (me : Me S (View T)) (i word : ℕ) → suc i ≡ word → i < size (node_buckets about) → me.0.live ≡ true → me.0.about ≡ about
+    pub begins : (slots id : ℕ) (me : Me S (View T)) (i word : ℕ) → suc i ≡ word → i < size (node_buckets about) → me.0.live ≡ true → me.0.about ≡ about → me.0.olds ≡ []
         → Allows Rule slots id me word (λ n. n) (begin_tells roots house told (step slots word 0 0 none) me)
-    begins slots id me i word is inside live about_is = looks_as slots id me i word (suc me.0.probes) true is inside live about_is (λ made le. omega arith)
+    begins slots id me i word is inside live about_is olds = looks_as slots id me i word (suc me.0.probes) true is inside live about_is olds (λ made le. omega arith)
 
     -- the load of word 0 after a join
-    pub meets : (slots id : ℕ) (me : Me S (View T)) (word : ℕ) → me.0.live ≡ true → Allows Rule slots id me word (λ n. n) (meet_tells roots house told (step slots word 0 0 none) me)
-    meets slots id me word live s r sl e below =
+    pub meets : (slots id : ℕ) (me : Me S (View T)) (word : ℕ) → word ≡ 0 → me.0.live ≡ true → Allows Rule slots id me word (λ n. n) (meet_tells roots house told (step slots word 0 0 none) me)
+    meets slots id me word first live s r sl e below =
         let f = r.each id me.0 e in
         let w : View T = record me.0 { olds = [] } in
         let g : Grown me.0 w = record { about = refl; face_is = refl; busy = refl; seen = refl; known = λ j x h. h; root = refl } in
@@ -164,7 +165,7 @@ module _ {T : Type 0} (S : Type 0) (about : About) (roots : About → History �
           keeps,
           tt,
           subst (λ (ws : List ℕ). Rule record { words = ws; homes = s.homes; views = set s.views id w }) (sym (set-get_or s.words word 0)) r',
-          record { view_is = refl; slots_stay = refl; joined_sound = sounds s r id me.0 e live; sound = sounds _ r' id w (set_got s.views id me.0 w e) live },
+          record { here = first; view_is = refl; slots_stay = refl; joined_sound = sounds s r id me.0 e live; sound = sounds _ r' id w (set_got s.views id me.0 w e) live },
         )
 
     -- a pair is put into an empty bucket of its path, whose earlier buckets have other pairs
@@ -213,10 +214,10 @@ module _ {T : Type 0} (S : Type 0) (about : About) (roots : About → History �
           rooted = subst (λ (rs : List ℕ). root r.log rs (set s.views id w)) (sym (drop-set-lt (suc (size b)) s.words word (node_word x) low)) (grows r.log _ s.views id v w r.rooted e g);
         }
 
-    pub puts : (slots id : ℕ) (me : Me S (View T)) (i word x j new : ℕ) → suc i ≡ word → i < size (node_buckets about) → me.0.live ≡ true → me.0.about ≡ about → me.0.probing ≡ true
+    pub puts : (slots id : ℕ) (me : Me S (View T)) (i word x j new : ℕ) → suc i ≡ word → i < size (node_buckets about) → me.0.live ≡ true → me.0.about ≡ about → me.0.olds ≡ [] → me.0.probing ≡ true
         → new ≡ node_word x → IsPair (node_buckets about) x → j < reach (node_buckets about) → bucket (node_buckets about) x j ≡ i → Passed (node_buckets about) (Listed me.0.known) x j
         → Allows Rule slots id me word (λ n. either (eqb n 0) new n) (put_tells roots house told (step slots word 0 new none) me)
-    puts slots id me i word x j new is inside live about_is probing packed small near lies passed s r sl e below =
+    puts slots id me i word x j new is inside live about_is olds probing packed small near lies passed s r sl e below =
         let n = get_or s.words word 0 in
         let same : at s.words i ≡ n = ap (λ (k : ℕ). get_or s.words k 0) is in
         let d : i ≡ word - 1 = omega arith in
@@ -231,9 +232,11 @@ module _ {T : Type 0} (S : Type 0) (about : About) (roots : About → History �
           tt,
           subst (λ (m : ℕ). Rule (stepped s word m id me.1 w keeps)) (sym packed) r',
           (
+            probing,
             (λ z'. (λ t. published (d t) (dx t) me.0)),
             (λ nz. absurd (nz z)),
             record {
+              no_olds = olds;
               slots_stay = refl;
               word = inl z;
               free = λ z' y h. unknown s r id i me.0 e (same ∙ z) y (subst (λ (m : ℕ). Has (m, y) me.0.known) (sym d) h);
@@ -249,9 +252,11 @@ module _ {T : Type 0} (S : Type 0) (about : About) (roots : About → History �
           tt,
           old.0,
           (
+            probing,
             (λ z. absurd (nz z)),
             (λ _. ap (λ (m : ℕ). learned m n me.0) d),
             record {
+              no_olds = olds;
               slots_stay = refl;
               word = subst (λ (a : About). IsWord a n) (sym about_is) (subst (IsWord about) same (word_is s r i inside));
               free = λ z. absurd (nz z);

@@ -6,16 +6,14 @@ use Rattle.atomic_table.specs.Table.{State}
 use Rattle.atomic_table.proofs.Lists.{at_map}
 use Rattle.tree_shape.specs.Tree.{Has}
 use Rattle.tdb_base.specs.History.{History, calls}
-use Rattle.tdb_base.specs.Legal.{IsLegal, Extends}
 use Rattle.pair_rule.specs.declared.view.View.{View}
 use Rattle.pair_rule.specs.declared.sizes.About.{About}
 use Rattle.pair_rule.specs.Numbers.{child, Face}
-use Rattle.pair_rule.specs.View.{face, made_of, node_word}
-use Rattle.pair_rule.specs.Paths.{node_buckets, size, bucket, reach, OnPath, Listed}
-use Rattle.pair_rule.specs.Rule.{IsNode, at, InWords, Stands, Fits, Numbers, Kept}
-use Rattle.pair_rule.specs.Rest.{AreNodes, Whole, HasAll, Sound}
+use Rattle.pair_rule.specs.View.{face, made_of}
+use Rattle.pair_rule.specs.Paths.{node_buckets, size, bucket, OnPath, Listed}
+use Rattle.pair_rule.specs.Rule.{IsNode, at, Stands, Numbers, Kept}
+use Rattle.pair_rule.specs.Rest.{AreNodes, Whole}
 use Rattle.pair_rule.proofs.Lists.{get_one, at_unmap}
-use Rattle.pair_rule.proofs.Histories.{legal_front, extends_shorter, calls_between, calls_none}
 use Rattle.pair_rule.proofs.Census.{child_above}
 use Rattle.pair_rule.proofs.Buckets.{stands, one_bucket}
 

@@ -1,5 +1,5 @@
 -- Pairs in a table of buckets, each on the path of its pair.
-use Rattle.std.specs.Prelude.{◌≡◌, ◌≢◌, ℕ, ◌*◌, ◌^◌, ◌<◌, ◌⊎◌, List}
+use Rattle.std.specs.Prelude.{◌≡◌, ◌≢◌, ℕ, ◌*◌, ◌^◌, ◌<◌, List}
 use Rattle.tree_shape.specs.Tree.{Has}
 use Rattle.probe_path.specs.Path.{bucket_at, path_length}
 use Rattle.pair_rule.specs.declared.sizes.About.{About}

@@ -1,5 +1,5 @@
 -- What each step on the table tells.
-use Rattle.std.specs.Prelude.{◌≡◌, ◌≢◌, ℕ, suc, ◌-◌, ◌^◌, ◌*◌, ◌<◌, ◌⊎◌, List, [], ◌++◌}
+use Rattle.std.specs.Prelude.{◌≡◌, ◌≢◌, ℕ, suc, ◌-◌, ◌⊎◌, List, [], ◌++◌, true}
 use Rattle.atomic_table.specs.Table.{Me, Step}
 use Rattle.tree_shape.specs.Tree.{Has, IsPart}
 use Rattle.tdb_base.specs.History.{History, calls}
@@ -17,6 +17,7 @@ IsWord about n = (n ≡ 0) ⊎ ((pair : ℕ) × (n ≡ node_word pair) × IsPair
 module _ {S T : Type 0} (roots : About → History → T → List (ℕ × ℕ)) (house : About → List (ℕ × ℕ) → Type 0) (told : About → View T → Type 0) where
   -- what a load of a node's bucket tells beside the view's change
   pub record Found (st : Step S) (m : Me S (View T)) (n : ℕ) (m' : Me S (View T)) : Type 0 where
+    pub no_olds : m.0.olds ≡ []
     pub slots_stay : m'.1 ≡ m.1
     pub word : IsWord m.0.about n
     pub free : n ≡ 0 → (pair : ℕ) → Has (st.word - 1, pair) m.0.known → ⊥
@@ -30,20 +31,21 @@ module _ {S T : Type 0} (roots : About → History → T → List (ℕ × ℕ)) 
   abbrev pub begin_tells : Step S → Me S (View T) → ℕ → Me S (View T) → Type 0
   begin_tells st m n m' = (m'.0 ≡ begun (st.word - 1) n m.0) × Found st m n m'
 
-  -- a node's bucket is exchanged: it was empty and now has the pair, or it is as it was
+  -- a node's bucket is exchanged, in a probe that is under way: it was empty and now has the pair, or it is as it was
   abbrev pub put_tells : Step S → Me S (View T) → ℕ → Me S (View T) → Type 0
   put_tells st m n m' =
-      (n ≡ 0 → m'.0 ≡ published (st.word - 1) (st.second - 9223372036854775808) m.0) × (n ≢ 0 → m'.0 ≡ learned (st.word - 1) n m.0) × Found st m n m'
+      (m.0.probing ≡ true) × (n ≡ 0 → m'.0 ≡ published (st.word - 1) (st.second - 9223372036854775808) m.0) × (n ≢ 0 → m'.0 ≡ learned (st.word - 1) n m.0) × Found st m n m'
 
   -- word 0 is loaded after two views were joined
-  pub record Met (m m' : Me S (View T)) : Type 0 where
+  pub record Met (st : Step S) (m m' : Me S (View T)) : Type 0 where
+    pub here : st.word ≡ 0
     pub view_is : m'.0 ≡ record m.0 { olds = [] }
     pub slots_stay : m'.1 ≡ m.1
     pub joined_sound : Sound roots house told m.0
     pub sound : Sound roots house told m'.0
 
   abbrev pub meet_tells : Step S → Me S (View T) → ℕ → Me S (View T) → Type 0
-  meet_tells st m n m' = Met m m'
+  meet_tells st m n m' = Met st m m'
 
 module _ {T : Type 0} (roots : About → History → T → List (ℕ × ℕ)) (house : About → List (ℕ × ℕ) → Type 0) (told : About → View T → Type 0) where
   -- the view w is v after it has caught up with some history and then made these calls

@@ -1,18 +1,18 @@
 -- What is known of a pass by itself, between two steps and between two calls.
-use Rattle.std.specs.Prelude.{◌≡◌, ℕ, ◌+◌, ◌*◌, ◌<◌, ◌≤◌, ◌&&◌, List, [], Bool, true, false, Option, Some, None, drop, length, slice_index, count_by, if◌then◌else◌}
+use Rattle.std.specs.Prelude.{◌≡◌, ℕ, ◌+◌, ◌*◌, ◌^◌, ◌<◌, ◌≤◌, ◌&&◌, List, [], true, false, Option, Some, None, drop, length, slice_index, count_by, if◌then◌else◌}
 use Rattle.std.specs.List.{list_any}
 use Rattle.std.specs.Prelude.{◌==◌}
 use Rattle.atomic_table.specs.Seated.{TableId}
 use Rattle.atomic_table.specs.declared.shared.Seat.{Seat}
 use Rattle.tree_shape.specs.Tree.{Has, IsNaming, Stands as StandsFor}
-use Rattle.tdb_base.specs.History.{Vector, Entry, History, is_fresh, calls}
+use Rattle.tdb_base.specs.History.{Vector, History, is_fresh, calls}
 use Rattle.tdb_base.specs.Legal.{IsLegal, Extends}
 use Rattle.pair_rule.specs.declared.view.View.{View}
 use Rattle.pair_rule.specs.declared.view.Old.{Old}
 use Rattle.pair_rule.specs.declared.sizes.About.{About}
 use Rattle.pair_rule.specs.declared.pass.PassOf.{PassOf}
 use Rattle.pair_rule.specs.Numbers.{child, Descends, NoRepeats}
-use Rattle.pair_rule.specs.Paths.{Buckets, node_buckets, root_buckets, size, bucket, reach, IsPair, OnPath, Listed}
+use Rattle.pair_rule.specs.Paths.{Buckets, node_buckets, size, bucket, reach, IsPair, OnPath, Listed}
 use Rattle.pair_rule.specs.Rule.{Named, open_probes}
 
 -- the nodes are a naming of pairs: each index is a bucket's number and lies on its pair's path
@@ -98,5 +98,6 @@ module _ {T : Type 0} where
     pub marks_length : length p.marks.items ≡ about.slots
     pub last : p.has_last ≡ true → (position : ℕ) → 2 ≤ position → position < 2 * about.slots
         → StandsFor about.width about.slots p.seat.me.0.known (drop about.slots p.last_tree.items) position (slice_index p.last_tree.items position)
+    pub last_slots : p.has_last ≡ true → (slot : ℕ) → slot < about.slots → slice_index p.last_tree.items (about.slots + slot) < 2 ^ about.width
     pub nodes_count : p.nodes_count ≡ length p.seat.me.0.made
     pub names_count : p.names_count ≡ names_of_callers p.seat.me.0.numbers p.seat.me.0.seen

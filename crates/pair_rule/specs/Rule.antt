@@ -1,5 +1,5 @@
 -- The rule: what holds of the words and of all views between any two steps.
-use Rattle.std.specs.Prelude.{◌≡◌, ◌≢◌, ℕ, suc, ◌+◌, ◌<◌, ◌≤◌, ◌⊎◌, List, [], ◌∷◌, drop, map, length, slice_index, Bool, true, false, Some, None, if◌then◌else◌}
+use Rattle.std.specs.Prelude.{◌≡◌, ◌≢◌, ℕ, suc, ◌+◌, ◌<◌, ◌≤◌, ◌⊎◌, List, [], drop, map, length, slice_index, Bool, true, false, Some, if◌then◌else◌}
 use mathlib.Core.Option.{some}
 use lib.ListN.{get_elem?}
 use Rattle.atomic_table.specs.Table.{State}
@@ -58,7 +58,7 @@ pub record Fits {T : Type 0} (about : About) (roots : History → T → List (�
   pub own : (c : ℕ) → Has c v.numbers → calls v.seen c ≡ calls log c
   pub named : Named about v.known v.seen (roots v.seen v.root)
   pub olds : (o : Old) → Has o v.olds → Extends o.seen log × ((c : ℕ) → Has c o.numbers → Has c v.numbers × (calls o.seen c ≡ calls log c)) × (length o.seen ≤ length v.seen)
-  pub spent : v.live ≡ false → (v.made ≡ []) × (v.seen ≡ [])
+  pub spent : v.live ≡ false → (v.made ≡ []) × (v.seen ≡ []) × (v.numbers ≡ []) × (v.born ≡ [])
 
 -- each pass's number is its own, and so are those of the passes joined into it; each but 0 was split from a pass that some view stands for; and no view has or bore a number
 -- that some pass has yet to give

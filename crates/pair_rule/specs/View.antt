@@ -1,6 +1,6 @@
 -- How views change as passes are made, split and joined, and as nodes are met.
-use Rattle.std.specs.Prelude.{◌≡◌, ◌==◌, ℕ, zero, suc, ◌+◌, ◌-◌, List, [], ◌∷◌, ◌++◌, Bool, true, false, if◌then◌else◌, nat_lt, length}
-use Rattle.tree_shape.specs.Tree.{Has, IsPart}
+use Rattle.std.specs.Prelude.{◌≡◌, ◌==◌, ℕ, suc, ◌+◌, ◌-◌, List, [], ◌∷◌, ◌++◌, true, false, if◌then◌else◌, nat_lt, length}
+use Rattle.tree_shape.specs.Tree.{IsPart}
 use Rattle.tdb_base.specs.History.{History}
 use Rattle.pair_rule.specs.declared.view.View.{View}
 use Rattle.pair_rule.specs.declared.view.Old.{Old}

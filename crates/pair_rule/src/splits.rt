@@ -1,9 +1,8 @@
 //! How passes are split, joined, and told of one another.
-ghost use Rattle.std.specs.Prelude.{◌≡◌, ◌+◌, ℕ, [], ◌∷◌, IfOk, OnErr, true, false};
-ghost use Rattle.tree_shape.specs.Tree.{Has, IsPart};
+ghost use Rattle.std.specs.Prelude.{◌≡◌, ◌+◌, IfOk, OnErr, false};
+ghost use Rattle.tree_shape.specs.Tree.{IsPart};
 ghost use Rattle.tdb_base.specs.History.{calls};
 ghost use Rattle.tdb_base.specs.Legal.{Extends};
-ghost use Rattle.pair_rule.specs.Numbers.{child};
 ghost use Rattle.pair_rule.specs.Rest.{AtRest, SeatRests, IsUnknown, KeepsCalls, view};
 ghost use Rattle.pair_rule.specs.View.{left, right, joined};
 
@@ -95,7 +94,7 @@ impl<R: RootPart<W, F>, const W: u32, const F: u32> PairTable<R, W, F> {
         ensures teller_view { view teller.new ≡ left (view teller.old) }
         ensures hearer_view { view hearer.new ≡ joined R.glue (view hearer.old) (right R.cut (view teller.old)) }
         ensures seen { Extends (view hearer.old).seen (view hearer.new).seen × Extends (view teller.old).seen (view hearer.new).seen }
-        ensures calls { KeepsCalls (view hearer.old) (view hearer.new) }
+        ensures calls { KeepsCalls (view hearer.old) (view hearer.new) × KeepsCalls (right R.cut (view teller.old)) (view hearer.new) }
         ensures nodes { IsPart (view hearer.old).known (view hearer.new).known × IsPart (view teller.old).known (view hearer.new).known }
         ensures roots { IsPart (R.roots self.now.about (view hearer.old).seen (view hearer.old).root) (R.roots self.now.about (view hearer.new).seen (view hearer.new).root)
             × IsPart (R.roots self.now.about (view teller.old).seen (view teller.old).root) (R.roots self.now.about (view hearer.new).seen (view hearer.new).root) }

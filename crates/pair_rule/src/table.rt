@@ -1,13 +1,9 @@
-ghost use Rattle.std.specs.Prelude.{◌≡◌, ℕ, suc, true, false, ◌+◌, ◌*◌, ◌^◌, ◌<◌, ◌≤◌, [], ◌∷◌, ◌++◌, IfOk, OnErr, length, replicate};
+ghost use Rattle.std.specs.Prelude.{◌≡◌, suc, false, ◌+◌, ◌*◌, ◌^◌, ◌<◌, ◌≤◌, IfOk, replicate};
 ghost use Rattle.packed_word.specs.Word.{IsLayout};
-ghost use Rattle.tree_shape.specs.Tree.{Has, IsPart};
-ghost use Rattle.tdb_base.specs.History.{calls};
-ghost use Rattle.tdb_base.specs.Legal.{Extends};
 ghost use Rattle.pair_rule.specs.Laws.{InRange, IsAbout};
-ghost use Rattle.pair_rule.specs.Numbers.{child};
 ghost use Rattle.pair_rule.specs.Paths.{node_buckets, size};
-ghost use Rattle.pair_rule.specs.Rest.{AtRest, SeatRests, Whole, HasAll, view};
-ghost use Rattle.pair_rule.specs.View.{left, right, joined, newcomer};
+ghost use Rattle.pair_rule.specs.Rest.{AtRest, Whole, view};
+ghost use Rattle.pair_rule.specs.View.{newcomer};
 
 use crate::part::RootPart;
 use crate::pass::{Buffers, Pass};
@@ -61,6 +57,7 @@ impl<R: RootPart<W, F>, const W: u32, const F: u32> PairTable<R, W, F> {
         requires { InRange W F R.sized sizes.now slots }
         ensures about { IfOk result (λ made. IsAbout W F R.sized R.count made.0.about × (made.0.about.sizes ≡ sizes.now) × (made.0.about.slots ≡ slots)) }
         ensures view { IfOk result (λ made. view made.1 ≡ newcomer (R.first made.0.about) made.0.about) }
+        ensures whole { IfOk result (λ made. Whole (view made.1)) }
         ensures no_tree { IfOk result (λ made. made.1.has_last ≡ false) }
         ensures rest { IfOk result (λ made. AtRest R.roots R.house R.told made.0.table.shared.table_id made.0.about made.1) }
     {

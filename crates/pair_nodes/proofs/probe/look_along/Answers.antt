@@ -1,4 +1,4 @@
-use Rattle.std.proofs.Common.{arith, ◌≡◌, ◌≢◌, ◌+◌, ◌*◌, ◌<◌, sym, subst, ap, refl, ◌∙◌, ℕ}
+use Rattle.std.proofs.Common.{arith, ◌≡◌, ◌+◌, ◌*◌, subst, ap, ◌∙◌, ℕ}
 use Rattle.pair_rule.specs.Rest.{view}
 use Rattle.pair_nodes.specs.Probe.{pair_of_word, Underway}
 use Rattle.pair_nodes.proofs.Views.{underway_then, ended_then, probed_learned, keeps_trans, keeps_seat}

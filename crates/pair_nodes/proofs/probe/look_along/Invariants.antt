@@ -1,4 +1,4 @@
-use Rattle.std.specs.Prelude.{◌+◌, ◌*◌, ◌≡◌, true}
+use Rattle.std.specs.Prelude.{◌+◌, ◌*◌}
 use Rattle.pair_rule.specs.Rest.{AtRest, view}
 use Rattle.pair_nodes.specs.Probe.{pair_of_word, Underway, KeepsTree}
 use Rattle.pair_nodes.proofs.probe.look_along.Given as goal

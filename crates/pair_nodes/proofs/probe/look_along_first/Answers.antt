@@ -1,6 +1,6 @@
 use Rattle.std.proofs.Common.{arith, ◌≡◌, ◌+◌, ◌*◌, subst, ℕ}
 use Rattle.pair_rule.specs.Rest.{view}
-use Rattle.pair_nodes.specs.Probe.{pair_of_word, Underway, Ended}
+use Rattle.pair_nodes.specs.Probe.{pair_of_word, Underway}
 use Rattle.pair_nodes.proofs.Views.{underway_then, ended_then}
 use Rattle.pair_nodes.proofs.Lines.{told_as}
 use Rattle.pair_nodes.proofs.probe.look_along_first.Goals as goal

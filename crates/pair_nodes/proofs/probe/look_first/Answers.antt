@@ -1,6 +1,6 @@
-use Rattle.std.proofs.Common.{arith, ◌≡◌, ◌+◌, ◌*◌, ◌<◌, sym, subst, ap, refl, ◌∙◌, ℕ}
+use Rattle.std.proofs.Common.{arith, ◌≡◌, ◌+◌, ◌*◌, subst, ap, ℕ}
 use Rattle.pair_rule.specs.Rest.{view}
-use Rattle.pair_nodes.specs.Probe.{pair_of_word, Underway, Ended}
+use Rattle.pair_nodes.specs.Probe.{pair_of_word, Underway}
 use Rattle.pair_nodes.proofs.Views.{underway_then, ended_then, probed_begun}
 use Rattle.pair_nodes.proofs.Lines.{told_as, line_inside, line_bucket, line_near, begin_found}
 use Rattle.pair_nodes.proofs.probe.look_first.Goals as goal

@@ -3,7 +3,6 @@ use Rattle.tree_shape.specs.Tree.{Has}
 use Rattle.pair_rule.specs.declared.sizes.About.{About}
 use Rattle.pair_rule.specs.Paths.{node_buckets, size}
 use Rattle.pair_rule.specs.View.{Grown}
-use Rattle.pair_rule.specs.Plays.{IsWord}
 use Rattle.pair_rule.proofs.Steps.{looks}
 use Rattle.pair_nodes.proofs.Views.{buckets_small, rests_step, shown_grown}
 use Rattle.pair_nodes.proofs.steps.look.Goals as goal
@@ -21,7 +20,7 @@ load-requires g c =
       c.requires.rest.seat.table_is,
       omega (arith, c.args.table.now.wide),
       looks _ t.key g.R.RootPart.roots g.R.RootPart.house g.R.RootPart.told (g.R.RootPart.holds t.key) (g.met.R.RootPart.tells t.key) (g.met.R.RootPart.houses t.key) (g.met.R.RootPart.keeps t.key) t.table_id.slots
-          c.args.pass.now.seat.id c.args.pass.now.seat.me c.args.at (c.args.at + 1) (omega arith) inside c.requires.rest.seat.live about_is,
+          c.args.pass.now.seat.id c.args.pass.now.seat.me c.args.at (c.args.at + 1) (omega arith) inside c.requires.rest.seat.live about_is c.requires.rest.seat.no_olds,
     )
 
 pub returns-clause-rest : goal.returns-clause-rest

@@ -1,4 +1,4 @@
-use Rattle.std.proofs.Common.{arith, ◌≡◌, ◌≢◌, ◌+◌, ◌-◌, ◌<◌, sym, subst, ap, refl, ◌∙◌, ℕ, add-zero, length}
+use Rattle.std.proofs.Common.{arith, ◌≡◌, ◌+◌, ◌-◌, ◌<◌, sym, subst, ap, refl, ◌∙◌, ℕ, add-zero, length}
 use Rattle.tree_shape.specs.Tree.{Has}
 use Rattle.pair_rule.specs.declared.sizes.About.{About}
 use Rattle.pair_rule.specs.Paths.{node_buckets, size, bucket, reach, IsPair, Passed, Listed}
@@ -30,7 +30,7 @@ compare_exchange-found-requires g c =
       r.rest.seat.table_is,
       omega (arith, c.args.table.now.wide),
       puts _ t.key g.R.RootPart.roots g.R.RootPart.house g.R.RootPart.told (g.R.RootPart.holds t.key) (g.met.R.RootPart.tells t.key) (g.met.R.RootPart.houses t.key) (g.met.R.RootPart.keeps t.key) t.table_id.slots
-          c.args.pass.now.seat.id c.args.pass.now.seat.me c.args.at (c.args.at + 1) pair step c.args.word (omega arith) inside r.rest.seat.live about_is r.probing r.pair.0 is_pair near lies passed,
+          c.args.pass.now.seat.id c.args.pass.now.seat.me c.args.at (c.args.at + 1) pair step c.args.word (omega arith) inside r.rest.seat.live about_is r.rest.seat.no_olds r.probing r.pair.0 is_pair near lies passed,
     )
 
 pub overflow_add-pass : goal.overflow_add-pass
@@ -44,15 +44,19 @@ returns-then-found-eq0-clause-rest g c =
     let v = c.args.pass.now.seat.me.0 in
     let e = c.compare_exchange-found.ensures in
     let tells = e.2 in
-    let won = tells.0 c.if-found-eq0.true in
+    let won = tells.1 c.if-found-eq0.true in
     let grown : Grown v c.compare_exchange-found.new.seat.me.0 = subst (λ u. Grown v u) (sym won) (published_grown _ _ v) in
-    rests_step g.R.RootPart.roots g.R.RootPart.house g.R.RootPart.told _ _ c.args.pass.now _ 1 c.requires.rest e.0 tells.2.slots_stay grown (ap (λ u. u.olds) won) tells.2.sound (ap (λ u. length u.made) won ∙ (omega arith)) refl refl refl refl refl refl
+    rests_step g.R.RootPart.roots g.R.RootPart.house g.R.RootPart.told _ _ c.args.pass.now _ 1 c.requires.rest e.0 tells.3.slots_stay grown (ap (λ u. u.olds) won) tells.3.sound (ap (λ u. length u.made) won ∙ (omega arith)) refl refl refl refl refl refl
 
 pub returns-else-found-eq0-clause-rest : goal.returns-else-found-eq0-clause-rest
 returns-else-found-eq0-clause-rest g c =
     let v = c.args.pass.now.seat.me.0 in
     let e = c.compare_exchange-found.ensures in
     let tells = e.2 in
-    let lost = tells.1 c.if-found-eq0.false in
-    let grown : Grown v c.compare_exchange-found.new.seat.me.0 = subst (λ u. Grown v u) (sym lost) (shown_grown v.about ((c.args.at + 1) - 1) c.compare_exchange-found.result v.probes v.probing v tells.2.word) in
-    rests_step g.R.RootPart.roots g.R.RootPart.house g.R.RootPart.told _ _ c.args.pass.now _ 0 c.requires.rest e.0 tells.2.slots_stay grown (ap (λ u. u.olds) lost) tells.2.sound (ap (λ u. length u.made) lost ∙ sym (add-zero _)) refl refl refl refl (sym (add-zero _)) refl
+    let lost = tells.2 c.if-found-eq0.false in
+    let grown : Grown v c.compare_exchange-found.new.seat.me.0 = subst (λ u. Grown v u) (sym lost) (shown_grown v.about ((c.args.at + 1) - 1) c.compare_exchange-found.result v.probes v.probing v tells.3.word) in
+    rests_step g.R.RootPart.roots g.R.RootPart.house g.R.RootPart.told _ _ c.args.pass.now _ 0 c.requires.rest e.0 tells.3.slots_stay grown (ap (λ u. u.olds) lost) tells.3.sound (ap (λ u. length u.made) lost ∙ sym (add-zero _)) refl refl refl refl (sym (add-zero _)) refl
+
+pub returns-then-found-eq0-clause-free : goal.returns-then-found-eq0-clause-free
+returns-then-found-eq0-clause-free g c = let d : (c.args.at + 1) - 1 ≡ c.args.at = omega arith in
+    λ z x h. c.compare_exchange-found.ensures.2.3.free z x (subst (λ (i : ℕ). Has (i, x) c.args.pass.now.seat.me.0.known) (sym d) h)

@@ -1,4 +1,4 @@
-use Rattle.std.proofs.Common.{arith, ◌≡◌, ◌≢◌, ◌+◌, ◌*◌, ◌-◌, ◌^◌, ◌<◌, ◌≤◌, sym, subst, ap, refl, ◌∙◌, ℕ}
+use Rattle.std.proofs.Common.{arith, ◌≡◌, ◌+◌, ◌*◌, ◌-◌, ◌^◌, ◌<◌, ◌≤◌, sym, subst}
 use Rattle.packed_word.specs.Word.{pair_of}
 use Rattle.packed_word.proofs.Parts.{pair_below}
 use Rattle.pair_rule.specs.declared.sizes.Sizes.{Sizes}

@@ -1,6 +1,6 @@
-use Rattle.std.proofs.Common.{arith, ◌≡◌, ◌≢◌, ◌+◌, ◌*◌, ◌-◌, ◌/◌, ◌%◌, ◌^◌, ◌<◌, sym, subst, ap, refl, ◌∙◌, ℕ, ⊎_elim, div-add-mod'}
+use Rattle.std.proofs.Common.{arith, ◌≡◌, ◌≢◌, ◌*◌, ◌^◌, ◌<◌, sym, subst, ap, ◌∙◌, ℕ, ⊎_elim}
 use Rattle.tree_shape.specs.Tree.{Has}
-use Rattle.packed_word.specs.Word.{pair_of, left_of, right_of, word_of}
+use Rattle.packed_word.specs.Word.{pair_of}
 use Rattle.pair_rule.specs.declared.sizes.About.{About}
 use Rattle.pair_rule.specs.View.{node_word}
 use Rattle.pair_rule.specs.Paths.{node_buckets, size, IsPair}

@@ -1,12 +1,11 @@
 use Rattle.std.proofs.lemmas.List.{length-replicate}
-use Rattle.std.proofs.Common.{length, arith, ap, ◌∙◌, ◌≡◌, ◌+◌, sym, subst, ℕ, suc, refl, []}
+use Rattle.std.proofs.Common.{length, arith, ap, ◌∙◌, ◌≡◌, ◌+◌, sym, suc, refl, []}
 use Rattle.pair_rule.proofs.Passes.{opens_words}
 use Rattle.pair_rule.proofs.Rests.{rests_new, pass_rests}
 use Rattle.pair_rule.specs.Laws.{IsAbout}
 use Rattle.pair_rule.specs.Paths.{node_buckets, size}
 use Rattle.pair_rule.specs.Rest.{names_of_callers}
 use Rattle.pair_rule.specs.declared.sizes.About.{About}
-use Rattle.pair_rule.specs.declared.pass.PassOf.{PassOf}
 use Rattle.pair_rule.proofs.table.PairTable.create.Goals as goal
 
 pub of_words-requires : goal.of_words-requires

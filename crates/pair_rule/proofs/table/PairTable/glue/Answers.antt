@@ -1,4 +1,4 @@
-use Rattle.std.proofs.Common.{arith, ap, ◌∙◌, []}
+use Rattle.std.proofs.Common.{arith, refl, ap, ◌∙◌, []}
 use Rattle.pair_rule.proofs.Passes.{joins}
 use Rattle.pair_rule.proofs.Steps.{meets}
 use Rattle.pair_rule.proofs.Rests.{told_joined, roots_joined}
@@ -22,21 +22,21 @@ load-requires g c =
       e.0 ∙ c.requires.seat.table_is,
       omega (arith, c.args.self.now.wide),
       meets _ t.key g.R.RootPart.roots g.R.RootPart.house g.R.RootPart.told (g.R.RootPart.holds t.key) (g.met.R.RootPart.tells t.key) (g.met.R.RootPart.houses t.key) (g.met.R.RootPart.keeps t.key)
-          t.table_id.slots c.join_seat.new.seat.id c.join_seat.new.seat.me 0 (ap (λ m. m.0.live) e.2 ∙ c.requires.seat.live),
+          t.table_id.slots c.join_seat.new.seat.id c.join_seat.new.seat.me 0 refl (ap (λ m. m.0.live) e.2 ∙ c.requires.seat.live),
     )
 
 pub returns-clause-seen : goal.returns-clause-seen
 returns-clause-seen g c =
-    let b = told_joined g.R.RootPart.roots g.R.RootPart.house g.R.RootPart.told g.R.RootPart.glue c.args.seat.now.me.0 c.args.other.me.0 c.args.seat.now.me.1 c.join_seat.new.seat.me c.load.new.seat.me c.join_seat.ensures.2 c.load.ensures.2 in
+    let b = told_joined g.R.RootPart.roots g.R.RootPart.house g.R.RootPart.told g.R.RootPart.glue c.args.seat.now.me.0 c.args.other.me.0 c.args.seat.now.me.1 c.join_seat.new.seat.me c.load.new.seat.me c.join_seat.ensures.2 _ c.load.ensures.2 in
     b.seen
 
 pub returns-clause-calls : goal.returns-clause-calls
 returns-clause-calls g c =
-    let b = told_joined g.R.RootPart.roots g.R.RootPart.house g.R.RootPart.told g.R.RootPart.glue c.args.seat.now.me.0 c.args.other.me.0 c.args.seat.now.me.1 c.join_seat.new.seat.me c.load.new.seat.me c.join_seat.ensures.2 c.load.ensures.2 in
+    let b = told_joined g.R.RootPart.roots g.R.RootPart.house g.R.RootPart.told g.R.RootPart.glue c.args.seat.now.me.0 c.args.other.me.0 c.args.seat.now.me.1 c.join_seat.new.seat.me c.load.new.seat.me c.join_seat.ensures.2 _ c.load.ensures.2 in
     (b.own, b.others)
 
 pub returns-clause-roots : goal.returns-clause-roots
 returns-clause-roots g c =
-    let b = told_joined g.R.RootPart.roots g.R.RootPart.house g.R.RootPart.told g.R.RootPart.glue c.args.seat.now.me.0 c.args.other.me.0 c.args.seat.now.me.1 c.join_seat.new.seat.me c.load.new.seat.me c.join_seat.ensures.2 c.load.ensures.2 in
+    let b = told_joined g.R.RootPart.roots g.R.RootPart.house g.R.RootPart.told g.R.RootPart.glue c.args.seat.now.me.0 c.args.other.me.0 c.args.seat.now.me.1 c.join_seat.new.seat.me c.load.new.seat.me c.join_seat.ensures.2 _ c.load.ensures.2 in
     let is = c.load.ensures.2.view_is ∙ ap (λ m. record m.0 { olds = [] }) c.join_seat.ensures.2 in
     roots_joined g.R.RootPart.roots g.R.RootPart.house g.R.RootPart.told c.args.self.now.about g.R.RootPart.glue (g.met.R.RootPart.roots_glue c.args.self.now.about) c.args.seat.now.me.0 c.args.other.me.0 c.load.new.seat.me.0 is b

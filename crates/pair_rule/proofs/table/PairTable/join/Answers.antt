@@ -1,4 +1,4 @@
-use Rattle.std.proofs.Common.{arith, refl, ap, ◌∙◌, sym, subst, length, ◌+◌, ◌≡◌}
+use Rattle.std.proofs.Common.{arith, refl, ap, ◌∙◌, subst, ◌+◌}
 use Rattle.tree_shape.specs.Tree.{IsPart}
 use Rattle.pair_rule.specs.View.{joined}
 use Rattle.pair_rule.specs.Rest.{KeepsCalls, view}

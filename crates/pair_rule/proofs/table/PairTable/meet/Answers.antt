@@ -1,9 +1,7 @@
-use Rattle.std.proofs.Common.{arith, refl, ap, ◌∙◌, sym, subst, length, ◌+◌, ◌≡◌, ℕ, List}
-use Rattle.tree_shape.specs.Tree.{Has, IsPart}
-use Rattle.tdb_base.specs.History.{calls}
-use Rattle.pair_rule.specs.Numbers.{child}
+use Rattle.std.proofs.Common.{arith, refl, ap, ◌∙◌, subst}
+use Rattle.tree_shape.specs.Tree.{IsPart}
 use Rattle.pair_rule.specs.View.{right, joined}
-use Rattle.pair_rule.specs.Rest.{names_of_callers, KeepsCalls, view}
+use Rattle.pair_rule.specs.Rest.{KeepsCalls, view}
 use Rattle.pair_rule.proofs.Rests.{pass_joined, nodes_joined, no_names_given}
 use Rattle.pair_rule.proofs.table.PairTable.meet.Goals as goal
 
@@ -31,3 +29,6 @@ returns-clause-roots g c =
     let v = view c.args.teller.now in
     let part = subst (λ x. IsPart (g.R.RootPart.roots about x.seen x.root) (g.R.RootPart.roots about u.seen u.root)) c.cut-seat.ensures.new_view c.glue.ensures.roots.1 in
     (c.glue.ensures.roots.0, subst (λ l. IsPart l (g.R.RootPart.roots about u.seen u.root)) (g.met.R.RootPart.roots_cut about v.seen v.root) part)
+
+pub returns-clause-calls : goal.returns-clause-calls
+returns-clause-calls g c = (c.glue.ensures.calls.0, subst (λ u. KeepsCalls u c.glue.new.seat.me.0) c.cut-seat.ensures.new_view c.glue.ensures.calls.1)

@@ -1,6 +1,6 @@
-use Rattle.std.proofs.Common.{◌*◌, arith, refl, ap, ◌∙◌, sym, subst, length, le_refl}
+use Rattle.std.proofs.Common.{◌*◌, refl, ap, ◌∙◌, sym, length, le_refl}
 use Rattle.pair_rule.specs.Numbers.{child, itself}
-use Rattle.pair_rule.specs.Rest.{IsUnknown, names_of_callers, view}
+use Rattle.pair_rule.specs.Rest.{names_of_callers, view}
 use Rattle.pair_rule.proofs.Rests.{pass_rests, no_names_given}
 use Rattle.pair_rule.proofs.table.PairTable.split.Goals as goal
 
