@@ -1,0 +1,4 @@
+pub mod Positions
+pub mod Builds
+pub mod Marks
+pub mod Roots

@@ -1,0 +1,8 @@
+//! Vectors of 2 to 1024 slots, each kept as a balanced tree of pairs in one shared table (after Laarman, van de Pol and Weber 2011).
+#![tactic(auto)]
+
+mod insert;
+mod store;
+mod tree;
+
+pub use store::{PlainPass, PlainStore, TreeStore};
