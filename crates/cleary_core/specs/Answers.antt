@@ -40,3 +40,7 @@ flag home quotient value k = record k { flags = (if (k.home == home) && (k.quoti
 abbrev pub flagged : ℕ → ℕ → ℕ → List Key → List Key
 flagged home quotient value [] = []
 flagged home quotient value (k ∷ keys) = flag home quotient value k ∷ flagged home quotient value keys
+
+-- where the words keep a map without the key, they stay
+pub record StayWithout (z : Sizes) (old new : List ℕ) (home quotient : ℕ) : Type 0 where
+  pub stay : (keys : List Key) → KeepsMap z old keys → (Present keys home quotient → ⊥) → new ≡ old

@@ -39,3 +39,9 @@ pub record InOneRun (n : ℕ) (old new : ℕ → Cell) (home : ℕ) : Type 0 whe
   pub span : (low ≤ home) × (home < high) × (high ≤ n)
   pub row : Row new low high
   pub others : (j : ℕ) → (j < low) ⊎ (high ≤ j) → new j ≡ old j
+
+-- at most the flags of one cell change
+pub record OnlyFlags (old new : ℕ → Cell) : Type 0 where
+  pub place : ℕ
+  pub here : new place ≡ record (old place) { flags = (new place).flags }
+  pub others : (j : ℕ) → j ≢ place → new j ≡ old j

@@ -1,8 +1,8 @@
 ghost use Rattle.std.specs.Prelude.{◌≡◌, ℕ, ◌+◌, ◌-◌, ◌*◌, ◌^◌, ◌<◌, ◌≤◌, List, length, MatchBool, MatchResult, ⊤};
 ghost use Rattle.cleary_core.specs.Access.{Agrees};
-ghost use Rattle.cleary_core.specs.Answers.{Tells, TellsFlags, Decides, DecidesFlags, Answered, flagged};
+ghost use Rattle.cleary_core.specs.Answers.{Tells, TellsFlags, Decides, DecidesFlags, Answered, StayWithout, flagged};
 ghost use Rattle.cleary_core.specs.Cells.{IsRegion, cell_at, sizes_of, word_count};
-ghost use Rattle.cleary_core.specs.Change.{InOneRun};
+ghost use Rattle.cleary_core.specs.Change.{InOneRun, OnlyFlags};
 ghost use Rattle.cleary_core.specs.Map.{Key, KeepsMap};
 ghost use Rattle.cleary_core.specs.Search.{ReachesRun};
 
@@ -92,7 +92,7 @@ impl<const W: u32, const F: u32> Region<W, F> {
         self.find_in(&mut SliceReader { words }, home, quotient)
     }
 
-    /// Whether the map has the key, by words that are reached one at a time: those of the home's run up to the end of its group, and of the cell before it.
+    /// Whether the map has the key, by words that are reached one at a time: those of the home's run, and of the cell on either side of it.
     ///
     /// It ends and stays within the region whatever it finds, also where the words are of no one moment and keep no map. What it
     /// reached decides its answer: whatever words agree with that and keep a map, the answer is true of that map.
@@ -172,13 +172,15 @@ impl<const W: u32, const F: u32> Region<W, F> {
         }
     }
 
-    /// Sets the flags of a key, if the map has it, to a value below `2^F`. All else stays.
+    /// Sets the flags of a key, if the map has it, to a value below `2^F`. All else stays: no other cell changes, and where the map hasn't the key no word does.
     pub fn set_flags(&self, words: &mut [u64], home: u64, quotient: u64, value: u64)
         requires words { length words.old ≡ word_count self.now }
         requires home { home < self.now.cells }
         requires value { value < 2 ^ self.now.flags }
         requires kept { (keys : List Key) × KeepsMap self.now words.old keys }
         ensures flagged { (keys : List Key) → KeepsMap self.now words.old keys → KeepsMap self.now words.new (flagged home quotient value keys) }
+        ensures others { OnlyFlags (cell_at self.now words.old) (cell_at self.now words.new) }
+        ensures absent { StayWithout self.now words.old words.new home quotient }
         ensures kept { (keys : List Key) × KeepsMap self.now words.new keys }
     {
         self.set_flags_in(&mut SliceWriter { words }, home, quotient, value)
@@ -191,6 +193,8 @@ impl<const W: u32, const F: u32> Region<W, F> {
         requires value { value < 2 ^ self.now.flags }
         requires kept { (keys : List Key) × KeepsMap self.now (A.words access.old) keys }
         ensures flagged { (keys : List Key) → KeepsMap self.now (A.words access.old) keys → KeepsMap self.now (A.words access.new) (flagged home quotient value keys) }
+        ensures others { OnlyFlags (cell_at self.now (A.words access.old)) (cell_at self.now (A.words access.new)) }
+        ensures absent { StayWithout self.now (A.words access.old) (A.words access.new) home quotient }
         ensures kept { (keys : List Key) × KeepsMap self.now (A.words access.new) keys }
         ensures words { A.spans access.new (word_count self.now) }
         ensures writes { A.writes access.old access.new }

@@ -5,7 +5,7 @@ mod nodes;
 mod probe;
 mod steps;
 
-pub use nodes::{Nodes, NodesFull};
+pub use nodes::Nodes;
 
 #[cfg(test)]
 mod tests;

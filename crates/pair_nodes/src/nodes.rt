@@ -9,13 +9,9 @@ ghost use Rattle.pair_nodes.specs.Probe.{Probed, PutAt, KeepsTree};
 use crate::probe::probe;
 use crate::steps::look;
 use packed_word::Layout;
-use pair_rule::{PairTable, Pass, RootPart};
+use pair_rule::{NodesFull, PairTable, Pass, RootPart};
 use probe_path::Path;
 use tdb_base::{Ledger, Steps};
-
-/// The table of nodes is full for a pair: each bucket of its path has another one.
-#[derive(Clone, Copy, Debug, PartialEq, Eq)]
-pub struct NodesFull;
 
 /// The nodes of a store: pairs of parts below `2^W`, each once, named by its place in the table, its index.
 ///

@@ -3,8 +3,8 @@ ghost use Rattle.std.specs.Prelude.{◌≡◌, ◌≤◌, ◌^◌, All, IfOk};
 ghost use Rattle.pair_rule.specs.Laws.{InRange, no_roots, no_house, NobodyCalled};
 ghost use Rattle.pair_rule.specs.Rest.{AtRest};
 
-use super::{Nodes, NodesFull};
-use pair_rule::{NoRoot, PairTable, Pass, PassOf, RootPart, Sizes};
+use super::Nodes;
+use pair_rule::{NoRoot, NodesFull, PairTable, Pass, PassOf, RootPart, Sizes};
 use std::alloc::Global;
 use std::process::Abort;
 use std::test::Fail;

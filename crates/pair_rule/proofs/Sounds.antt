@@ -38,6 +38,7 @@ module _ {T : Type 0} (S : Type 0) (about : About) (roots : About â†’ History â†
           housed = record {
             are_nodes = view_nodes S about roots root s r id v e;
             fills_paths = whole_paths S about roots root s r id v e whole;
+            legal = legal_front about.flags v.seen r.log f.seen r.legal;
             named = f.named;
             house_is = houses r.log _ (at s.words) s.views id v r.rooted r.legal e f live (whole_seen S about roots root s r id v e whole);
           };

@@ -29,6 +29,7 @@ FillsPaths b map = (i pair : ℕ) → Has (i, pair) map → OnPath b (Listed map
 pub record Housed (about : About) (house : List (ℕ × ℕ) → Type 0) (nodes roots : List (ℕ × ℕ)) (h : History) : Type 0 where
   pub are_nodes : AreNodes about nodes
   pub fills_paths : FillsPaths (node_buckets about) nodes
+  pub legal : IsLegal about.flags h
   pub named : Named about nodes h roots
   pub house_is : house roots
 

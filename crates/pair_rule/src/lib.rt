@@ -4,6 +4,7 @@
 //! van de Pol and Weber 2010), and the words of a root table. What a root table adds to the rule is its `RootPart`.
 #![tactic(auto)]
 
+mod full;
 mod no_root;
 mod part;
 mod pass;
@@ -14,6 +15,7 @@ mod splits;
 mod table;
 mod view;
 
+pub use full::{NodesFull, RootsFull};
 pub use no_root::NoRoot;
 pub use part::RootPart;
 pub use pass::{Pass, PassOf};

@@ -1,5 +1,5 @@
 -- The laws of passes of a plain store.
-use Rattle.std.proofs.Common.{◌≡◌, ℕ, ◌^◌, ◌<◌, [], ◌∷◌, Bool, Option, Some, None, refl, sym, ap, ◌∙◌, subst}
+use Rattle.std.proofs.Common.{◌≡◌, ℕ, ◌^◌, ◌<◌, [], ◌∷◌, Bool, true, Option, Some, None, refl, sym, ap, ◌∙◌, subst}
 use Rattle.atomic_table.specs.Seated.{TableId}
 use Rattle.tree_shape.specs.Tree.{Has, IsPart, RootStands}
 use Rattle.tree_shape.proofs.Trees.{one_root}
@@ -13,7 +13,7 @@ use Rattle.pair_rule.specs.Rest.{Whole, HasAll, view}
 use Rattle.pair_rule.proofs.Names.{root_more}
 use Rattle.root_plain.specs.declared.root.Roots.{Roots}
 use Rattle.root_plain.specs.Plain.{Told}
-use Rattle.root_plain.specs.Plays.{roots_of, house_of, Rests, CaughtUp, call}
+use Rattle.root_plain.specs.Plays.{roots_of, house_of, Rests, CaughtUp, call, IsNoName}
 use Rattle.root_plain.proofs.Probing.{name_bucket, roots_naming}
 
 pub different : (table : TableId) (about : About) (p : PassOf Roots) → Rests table about p → (u v : Vector) (id : ℕ) → name_of (view p).seen u ≡ Some id → name_of (view p).seen v ≡ Some id → u ≡ v
@@ -46,6 +46,10 @@ never_named table about p q pair v rp rq known roots stands blocked = by (name_o
 
 pub has_all : (table : TableId) (about : About) (p : PassOf Roots) → Rests table about p → Whole (view p) → HasAll about (roots_of about) (house_of about) (view p)
 has_all table about p r w = subst (λ (y : About). HasAll y (roots_of y) (house_of y) (view p)) r.seat.about_is (r.seat.sound.whole w)
+
+-- a call that is new came where it was allowed
+pub new_name : (caller id : ℕ) (vector : Vector) (v w : View Roots) (k : CaughtUp (call caller true vector id ∷ []) v w) → (name_of k.log vector ≡ None) × IsNoName id k.log
+new_name caller id vector v w k = k.sound.legal.each k.log (call caller true vector id) [] k.seen
 
 -- the vector of a call has the call's identifier
 pub call_named : (caller : ℕ) (fresh : Bool) (vector : Vector) (id : ℕ) (v w : View Roots) → CaughtUp (call caller fresh vector id ∷ []) v w → name_of w.seen vector ≡ Some id

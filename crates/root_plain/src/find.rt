@@ -50,7 +50,8 @@ pub fn find_id<const W: u32, const F: u32>(
     Some((Layout::<W, F>::left(word), Layout::<W, F>::right(word)))
 }
 
-/// The root, as its two parts, of the vector with this identifier, which is one that the pass has seen named. It makes no call.
+/// The root, as its two parts, of the vector with this identifier, which is one that the pass has seen named. It makes no call, waits for nobody and takes no
+/// memory.
 pub fn root_pair<const W: u32, const F: u32>(
     nodes: &Nodes<PlainRoot<W, F>, W, F>,
     pass: &mut Pass<PlainRoot<W, F>, W, F>,

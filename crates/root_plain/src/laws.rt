@@ -1,7 +1,7 @@
 //! The laws of passes of a plain store, each as the contract of a function that does nothing.
-ghost use Rattle.root_plain.specs.PassLaws.{NamesDiffer, NamesAreBuckets, RootsAreNaming, FullForGood, WholeHasAll};
+ghost use Rattle.root_plain.specs.PassLaws.{NamesDiffer, NamesAreBuckets, RootsAreNaming, NewNames, FullForGood, WholeHasAll};
 
-/// Equal vectors have equal identifiers and different ones different, whoever called; identifiers are below `2^roots`.
+/// In the history that a pass has seen, whoever made the calls, a vector has one identifier and different vectors have different ones, all below `2^roots`.
 pub fn names_differ()
     ensures differ { NamesDiffer }
     ensures below { NamesAreBuckets }
@@ -12,12 +12,18 @@ pub fn roots_are_naming()
     ensures { RootsAreNaming }
 {}
 
+/// A call that is new named a vector that had no name, with an identifier that no vector had.
+pub fn new_names()
+    ensures { NewNames }
+{}
+
 /// A root that was refused because its path was full gets no name later.
 pub fn full_for_good()
     ensures { FullForGood }
 {}
 
-/// A pass that stands for all passes that there are knows the whole store.
+/// What a pass that stands for all passes knows is a store: it put all of its nodes, all calls are its own, nodes and roots fill their paths, and the roots are
+/// those of the history's names.
 pub fn whole_has_all()
     ensures { WholeHasAll }
 {}

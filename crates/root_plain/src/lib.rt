@@ -12,8 +12,10 @@ mod root;
 mod steps;
 
 pub use find::{find_id, root_pair};
-pub use put::{RootsFull, put_root};
+pub use put::put_root;
 pub use root::{PlainRoot, Roots};
 
+#[cfg(test)]
+mod crowd;
 #[cfg(test)]
 mod tests;

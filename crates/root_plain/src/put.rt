@@ -14,13 +14,9 @@ use crate::root::PlainRoot;
 use crate::steps::{claim, look};
 use packed_word::Layout;
 use pair_nodes::Nodes;
-use pair_rule::{PairTable, Pass};
+use pair_rule::{PairTable, Pass, RootsFull};
 use probe_path::{Path, Walk};
 use tdb_base::{Ledger, Steps};
-
-/// Each bucket of a root's path has another root.
-#[derive(Clone, Copy, Debug, PartialEq, Eq)]
-pub struct RootsFull;
 
 // The pair as one number.
 #[inline]
@@ -33,7 +29,7 @@ fn packed<const W: u32, const F: u32>(left: u64, right: u64) -> u64
     Layout::<W, F>::pack(left, right) - (1 << 63)
 }
 
-// Looks at the bucket `at`, the one of this step of the pair's path, and puts the pair there if it is empty. 0 says that it did; any other answer is the word that stands there.
+// Looks at the bucket `at` of the pair's path, whose earlier buckets are known to have other pairs, and puts the pair there if it is empty. 0 says that it did; any other answer is the word that stands there.
 #[inline]
 fn settle<const W: u32, const F: u32>(
     table: &PairTable<PlainRoot<W, F>, W, F>,

@@ -4,21 +4,21 @@ ghost use Rattle.tdb_base.specs.History.{Vector, name_of};
 ghost use Rattle.pair_rule.specs.Rest.{view};
 ghost use Rattle.root_plain.specs.Plays.{Rests};
 
-use crate::{PlainRoot, RootsFull, find_id, put_root, root_pair};
+use crate::{PlainRoot, find_id, put_root, root_pair};
 use pair_nodes::Nodes;
-use pair_rule::{PairTable, Pass, Sizes};
+use pair_rule::{PairTable, Pass, RootsFull, Sizes};
 use std::alloc::Global;
 use std::process::Abort;
 use std::test::Fail;
 use std::thread;
 use tdb_base::{Kept, Ledger, NoMemory, Silent, Steps};
 
-type Store = Nodes<PlainRoot<16, 8>, 16, 8>;
+pub(crate) type Store = Nodes<PlainRoot<16, 8>, 16, 8>;
 
-type StorePass = Pass<PlainRoot<16, 8>, 16, 8>;
+pub(crate) type StorePass = Pass<PlainRoot<16, 8>, 16, 8>;
 
 // A store of vectors of two slots, with `2^roots` buckets for roots, and its pass.
-fn store(alloc: Global, roots: u32) -> Result<(Store, StorePass), NoMemory>
+pub(crate) fn store(alloc: Global, roots: u32) -> Result<(Store, StorePass), NoMemory>
     requires { (3 ≤ roots) × (roots ≤ 24) }
     ensures slots { IfOk result (λ made. made.0.table.about.slots ≡ 2) }
     ensures rest { IfOk result (λ made. Rests made.0.table.table.shared.table_id made.0.table.about made.1) }
@@ -34,7 +34,7 @@ fn store(alloc: Global, roots: u32) -> Result<(Store, StorePass), NoMemory>
 }
 
 // The answer of the pair's root: its bucket, and whether it is new.
-fn put<L: Ledger>(
+pub(crate) fn put<L: Ledger>(
     store: &Store,
     pass: &mut StorePass,
     left: u64,

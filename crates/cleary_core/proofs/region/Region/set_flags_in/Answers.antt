@@ -1,11 +1,13 @@
-use Rattle.std.proofs.Common.{◌≡◌, ◌∙◌, ℕ, List, sym, ap, subst}
+use Rattle.std.proofs.Common.{◌≡◌, ◌∙◌, ℕ, List, refl, sym, ap, subst}
 use Rattle.cleary_core.specs.Access.{Agrees}
 use Rattle.cleary_core.specs.Cells.{cell_at, word_count}
-use Rattle.cleary_core.specs.Answers.{flagged}
+use Rattle.cleary_core.specs.Answers.{StayWithout, flagged}
+use Rattle.cleary_core.specs.Change.{OnlyFlags}
 use Rattle.cleary_core.specs.Map.{Key, KeepsMap}
 use Rattle.cleary_core.specs.declared.cells.Cell.{Cell}
 use Rattle.cleary_core.specs.declared.cells.Sizes.{Sizes}
 use Rattle.cleary_core.proofs.Flags.{keeps_flags, flagged_absent}
+use Rattle.cleary_core.proofs.Placing.{found_here}
 use Rattle.cleary_core.proofs.region.Region.set_flags_in.Goals as goal
 
 pub returns-in_default-clause-flagged : goal.returns-in_default-clause-flagged
@@ -37,3 +39,44 @@ returns-clause-flagged g c = subst (λ (z : Sizes). (keys : List Key) → KeepsM
 
 pub returns-clause-kept : goal.returns-clause-kept
 returns-clause-kept g c = (flagged c.args.home c.args.quotient c.args.value c.requires.kept.0, returns-clause-flagged g c c.requires.kept.0 c.requires.kept.1)
+
+pub returns-in_default-clause-others : goal.returns-in_default-clause-others
+returns-in_default-clause-others g c =
+    let old : List ℕ = g.A.WriteWords.words c.args.access.now in
+    let same = (g.met.A.WriteWords.same c.args.access.now c.locate.new.access c.locate.ensures.reads).0 in
+    let z : Sizes = c.self.inside.sizes in
+    let stays : OnlyFlags (cell_at z old) (cell_at z old) = record { place = 0; here = refl; others = λ j n. refl } in
+    subst (λ (y : Sizes). OnlyFlags (cell_at y old) (cell_at y (g.A.WriteWords.words c.locate.new.access))) c.self.view_is
+    (subst (λ (w : List ℕ). OnlyFlags (cell_at z old) (cell_at z w)) (sym same) stays)
+
+pub returns-in_default-clause-absent : goal.returns-in_default-clause-absent
+returns-in_default-clause-absent g c = record { stay = λ keys k absent. (g.met.A.WriteWords.same c.args.access.now c.locate.new.access c.locate.ensures.reads).0 }
+
+pub returns-clause-others : goal.returns-clause-others
+returns-clause-others g c =
+    let old : List ℕ = g.A.WriteWords.words c.args.access.now in
+    let new : List ℕ = g.A.WriteWords.words c.write_cell.new.access in
+    let same = (g.met.A.WriteWords.same c.args.access.now c.locate.new.access c.locate.ensures.reads).0 in
+    let z : Sizes = c.self.inside.sizes in
+    let at = c.in-Some.at in
+    let read : g.A.WriteWords.words c.own_cell-here.new.access ≡ old = c.own_cell-here.ensures.same ∙ same in
+    let flags : cell_at z new at ≡ record (cell_at z old at) { flags = c.args.value } =
+    c.write_cell.ensures.here ∙ ap (λ (y : Cell). let x : Cell = record y { flags = c.args.value } in x) (c.own_cell-here.ensures.value ∙ ap (λ w. cell_at z w at) same) in
+    let only : OnlyFlags (cell_at z old) (cell_at z new) = record {
+      place = at;
+      here = flags ∙ ap (λ (f : ℕ). let x : Cell = record (cell_at z old at) { flags = f } in x) (sym (ap (λ (y : Cell). y.flags) flags));
+      others = λ j ne. c.write_cell.ensures.others j ne ∙ ap (λ w. cell_at z w j) read;
+    } in
+    subst (λ (y : Sizes). OnlyFlags (cell_at y old) (cell_at y new)) c.self.view_is only
+
+pub returns-clause-absent : goal.returns-clause-absent
+returns-clause-absent g c =
+    let old : List ℕ = g.A.WriteWords.words c.args.access.now in
+    let new : List ℕ = g.A.WriteWords.words c.write_cell.new.access in
+    subst (λ (z : Sizes). StayWithout z old new c.args.home c.args.quotient) c.self.view_is record {
+      stay = λ keys k absent.
+          let z : Sizes = c.self.inside.sizes in
+          let same = (g.met.A.WriteWords.same c.args.access.now c.locate.new.access c.locate.ensures.reads).0 in
+          let agrees : Agrees (g.A.ReadWords.reached c.locate.new.access) old = subst (λ (w : List ℕ). Agrees (g.A.ReadWords.reached c.locate.new.access) w) same (g.met.A.WriteWords.stands c.locate.new.access (word_count z) c.locate.ensures.words).1 in
+          absurd (absent (found_here z.cells (cell_at z old) keys k c.args.home c.args.quotient c.in-Some.at (c.in-Some.ensures.found old keys agrees k)));
+    }
