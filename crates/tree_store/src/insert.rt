@@ -8,8 +8,8 @@ ghost use Rattle.tree_store.specs.Vectors.{IsVector, slots_of, StandsFrom};
 ghost use Rattle.tree_store.specs.Store.{naming, IfNamed, IfFullNodes, IfFullRoots, HasRoot, HasBlockedRoot, KeepsTree};
 
 use pair_nodes::Nodes;
-use pair_rule::{Pass, PassOf};
-use root_plain::{put_root, PlainRoot, RootsFull};
+use pair_rule::{Pass, PassOf, RootsFull};
+use root_plain::{PlainRoot, put_root};
 use std::mem;
 use tdb_base::{Ledger, Reply, Steps};
 

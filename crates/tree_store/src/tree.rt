@@ -6,8 +6,8 @@ ghost use Rattle.pair_rule.specs.Rest.{AtRest, view};
 ghost use Rattle.pair_nodes.specs.Probe.{Probed};
 ghost use Rattle.tree_store.specs.Vectors.{IsVector, slots_of, IsBlockedInside, StandsFrom, Building, Refused, raised, RaisedWithin, MarksChanges, mark_at, marks_from, KeepsLast, compared, puts_after};
 
-use pair_nodes::{Nodes, NodesFull};
-use pair_rule::{Pass, PassOf, RootPart};
+use pair_nodes::Nodes;
+use pair_rule::{NodesFull, Pass, PassOf, RootPart};
 use tdb_base::{Ledger, Steps};
 use tree_shape::Shape;
 
