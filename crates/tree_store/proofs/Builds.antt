@@ -30,7 +30,7 @@ keep_stands about nodes last next position x low high long_last long_next same s
 pub ticked_more : (n : ℕ) (old now new : Option ℕ) → now ≡ raised n old → new ≡ option_map counted now → new ≡ raised (n + 1) old
 ticked_more n old now new p q = q ∙ (ap (option_map counted) p ∙ ap (λ (m : ℕ). raised m old) (let e : suc n ≡ n + 1 = omega arith in e))
 
-in_more : (about : About) (v : Vector) (nodes more : List (ℕ × ℕ)) (index : ℕ) → IsPart nodes more → IsInTree about nodes v index → IsInTree about more v index
+pub in_more : (about : About) (v : Vector) (nodes more : List (ℕ × ℕ)) (index : ℕ) → IsPart nodes more → IsInTree about nodes v index → IsInTree about more v index
 in_more about v nodes more index part t = (t.0, t.1, t.2, stands_more about.width about.slots nodes more v t.0 index part t.3)
 
 module _ {T : Type 0} (about : About) (v : Vector) where

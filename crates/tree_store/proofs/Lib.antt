@@ -2,3 +2,5 @@ pub mod Positions
 pub mod Builds
 pub mod Marks
 pub mod Roots
+pub mod Never
+pub mod Inserts

@@ -1,7 +1,8 @@
 -- What a call on a plain store leaves of a pass.
 use Rattle.std.specs.Prelude.{◌≡◌, ℕ, ◌+◌, ◌*◌, List, [], ◌∷◌, ◌++◌, Option, Some, None, Bool, true, false, ⊤}
+use Rattle.atomic_table.specs.Seated.{TableId}
 use Rattle.tree_shape.specs.Tree.{Has, IsPart, RootStands}
-use Rattle.tdb_base.specs.History.{Vector, History, calls}
+use Rattle.tdb_base.specs.History.{Vector, History, name_of, calls}
 use Rattle.tdb_base.specs.Legal.{Extends}
 use Rattle.tdb_base.specs.declared.reply.Reply.{Reply}
 use Rattle.tdb_base.specs.declared.reply.Reply.TheVariants as r
@@ -10,7 +11,9 @@ use Rattle.pair_rule.specs.declared.sizes.About.{About}
 use Rattle.pair_rule.specs.declared.pass.PassOf.{PassOf}
 use Rattle.pair_rule.specs.View.{face}
 use Rattle.pair_rule.specs.Paths.{root_buckets, Blocked}
+use Rattle.pair_rule.specs.Rest.{view, last_vector}
 use Rattle.root_plain.specs.declared.root.Roots.{Roots}
+use Rattle.root_plain.specs.Plays.{Rests}
 
 -- the reply that names a vector: whether it is new, and its identifier
 abbrev pub naming : Bool → ℕ → Reply
@@ -37,6 +40,17 @@ IfFullRoots r.FullNodes Fact = ⊤
 IfFullRoots (r.New id) Fact = ⊤
 IfFullRoots (r.Seen id) Fact = ⊤
 
+-- what is said of a reply for which there was no place, whichever table was full
+abbrev pub IfFull : Reply → Type 0 → Type 0
+IfFull r.FullNodes Fact = Fact
+IfFull r.FullRoots Fact = Fact
+IfFull (r.New id) Fact = ⊤
+IfFull (r.Seen id) Fact = ⊤
+
+-- the vector has no name in any history that a pass of this table has seen that knows what this one knows
+abbrev pub NeverNamed : TableId → About → PassOf Roots → Vector → Type 0
+NeverNamed table about p v = (q : PassOf Roots) → Rests table about q → IsPart (view p).known (view q).known → IsPart (view p).root.roots (view q).root.roots → name_of (view q).seen v ≡ None
+
 -- the view w is v after it has caught up with some history and then made these calls; it may have put nodes before
 pub record Advanced (more : History) (v w : View Roots) : Type 0 where
   pub log : History
@@ -62,3 +76,9 @@ module _ {T : Type 0} where
   -- the tree that was put is the last one
   abbrev pub KeepsTree : PassOf T → PassOf T → Type 0
   KeepsTree old new = new ≡ record old { seat = new.seat; names_count = new.names_count; last_tree = old.next_tree; next_tree = old.last_tree; has_last = true }
+
+  -- the last tree is as it was
+  pub record KeepsLastTree (old new : PassOf T) : Type 0 where
+    pub has : new.has_last ≡ old.has_last
+    pub tree : new.last_tree ≡ old.last_tree
+    pub vector : last_vector new ≡ last_vector old

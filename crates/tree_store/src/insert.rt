@@ -1,12 +1,14 @@
 //! A vector is inserted into a plain store: its slots, its inner nodes, and then its root.
-ghost use Rattle.std.specs.Prelude.{◌≡◌, ◌≢◌, ℕ, ◌+◌, ◌-◌, ◌*◌, ◌<◌, ◌≤◌, true, [], ◌∷◌, drop, length, option_map};
+ghost use Rattle.std.specs.Prelude.{◌≡◌, ◌≢◌, ℕ, ◌+◌, ◌-◌, ◌*◌, ◌<◌, ◌≤◌, true, Some, [], ◌∷◌, drop, length, option_map};
 ghost use Rattle.tdb_base.specs.Fakes.{counted};
-ghost use Rattle.pair_rule.specs.Rest.{view};
+ghost use Rattle.pair_rule.specs.Rest.{view, last_vector};
 ghost use Rattle.root_plain.specs.Plays.{Rests, CaughtUp, call};
 ghost use Rattle.root_plain.specs.Probe.{SameBuffers};
-ghost use Rattle.tree_store.specs.Vectors.{IsVector, slots_of, StandsFrom};
-ghost use Rattle.tree_store.specs.Store.{naming, IfNamed, IfFullNodes, IfFullRoots, HasRoot, HasBlockedRoot, KeepsTree};
+ghost use Rattle.tree_store.specs.Vectors.{IsVector, slots_of, StandsFrom, compared, puts_after, raised, RaisedWithin, Gained, Refused};
+ghost use Rattle.tree_store.specs.Store.{naming, IfNamed, IfFullNodes, IfFullRoots, HasRoot, HasBlockedRoot, KeepsTree, IfFull, NeverNamed, KeepsLastTree, Advanced};
 
+use crate::store::{PlainPass, PlainStore, TreeStore};
+use crate::tree::put_nodes;
 use pair_nodes::Nodes;
 use pair_rule::{Pass, PassOf, RootsFull};
 use root_plain::{PlainRoot, put_root};
@@ -71,5 +73,106 @@ fn put_tree_root<L: Ledger, const W: u32, const F: u32>(
             reply(fresh, id)
         }
         Err(RootsFull) => Reply::FullRoots,
+    }
+}
+
+// Inserts the vector: its slots, its inner nodes (all, or only those that the last tree doesn't have), and its root.
+fn put_vector<L: Ledger, const W: u32, const F: u32>(
+    store: &PlainStore<W, F>,
+    pass: &mut PlainPass<W, F>,
+    vector: &[u32],
+    from_last: bool,
+    steps: &mut Steps<L>,
+) -> Reply
+    requires rest { Rests store.now.nodes.table.table.shared.table_id store.now.nodes.table.about pass.old }
+    requires vector { IsVector store.now.nodes.table.about vector.now }
+    ensures rest { Rests store.now.nodes.table.table.shared.table_id store.now.nodes.table.about pass.new }
+    ensures call { IfNamed result (λ fresh id. Advanced (call (view pass.old).number fresh vector.now id ∷ []) (view pass.old) (view pass.new)) }
+    ensures root { IfNamed result (λ fresh id. HasRoot store.now.nodes.table.about (view pass.new) vector.now id) }
+    ensures last { IfNamed result (λ fresh id. last_vector pass.new ≡ Some vector.now) }
+    ensures nodes { IfNamed result (λ fresh id. Gained store.now.nodes.table.about vector.now (puts_after store.now.nodes.table.about (compared from_last pass.old) vector.now) (view pass.old) (view pass.new)) }
+    ensures probes { IfNamed result (λ fresh id. (view pass.new).probes ≡ (view pass.old).probes + puts_after store.now.nodes.table.about (compared from_last pass.old) vector.now) }
+    ensures ticks { IfNamed result (λ fresh id. L.count steps.new ≡ raised (puts_after store.now.nodes.table.about (compared from_last pass.old) vector.now + 1) (L.count steps.old)) }
+    ensures full_nodes { IfFullNodes result (Refused store.now.nodes.table.about vector.now (puts_after store.now.nodes.table.about (compared from_last pass.old) vector.now) (view pass.old) (view pass.new)) }
+    ensures full_nodes_ticks { IfFullNodes result (RaisedWithin (puts_after store.now.nodes.table.about (compared from_last pass.old) vector.now) (L.count steps.old) (L.count steps.new)) }
+    ensures full_roots { IfFullRoots result (HasBlockedRoot store.now.nodes.table.about (view pass.new) vector.now) }
+    ensures full_roots_no_call { IfFullRoots result (Advanced [] (view pass.old) (view pass.new)) }
+    ensures full_roots_nodes { IfFullRoots result (Gained store.now.nodes.table.about vector.now (puts_after store.now.nodes.table.about (compared from_last pass.old) vector.now) (view pass.old) (view pass.new)) }
+    ensures full_roots_probes { IfFullRoots result ((view pass.new).probes ≡ (view pass.old).probes + puts_after store.now.nodes.table.about (compared from_last pass.old) vector.now) }
+    ensures full_roots_ticks { IfFullRoots result (L.count steps.new ≡ raised (puts_after store.now.nodes.table.about (compared from_last pass.old) vector.now + 1) (L.count steps.old)) }
+    ensures full_last { IfFull result (KeepsLastTree pass.old pass.new) }
+    ensures full_for_good { IfFull result (NeverNamed store.now.nodes.table.table.shared.table_id store.now.nodes.table.about pass.new vector.now) }
+{
+    let shape = &store.shape;
+    fill_slots(pass, shape.slots(), vector);
+    let Ok(()) = put_nodes(&store.nodes, shape, pass, from_last, steps) else {
+        return Reply::FullNodes;
+    };
+    put_tree_root(&store.nodes, pass, steps)
+}
+
+impl<const W: u32, const F: u32> TreeStore<PlainRoot<W, F>, W, F> {
+    /// Gives the vector a name, or finds its name. It puts all inner nodes of the vector's tree, from the last position down, and then the root.
+    ///
+    /// The vector fits the store: it has the store's slots, each below `2^W`. With `New` and `Seen` the answer is one call of the store's history, at one
+    /// atomic step; the pass has then seen that history up to it, its last tree is this vector's, and a step was counted for each inner position and for the
+    /// root. `FullNodes` comes only where on the path of some pair of the tree each bucket has another pair, `FullRoots` only where this is so of the root:
+    /// then the vector never gets a name, no call is made, the last tree stays, and nodes that were put before stay. It waits for nobody and takes no memory.
+    pub fn insert<L: Ledger>(
+        &self,
+        pass: &mut PlainPass<W, F>,
+        vector: &[u32],
+        steps: &mut Steps<L>,
+    ) -> Reply
+        requires rest { Rests self.now.nodes.table.table.shared.table_id self.now.nodes.table.about pass.old }
+        requires vector { IsVector self.now.nodes.table.about vector.now }
+        ensures rest { Rests self.now.nodes.table.table.shared.table_id self.now.nodes.table.about pass.new }
+        ensures call { IfNamed result (λ fresh id. Advanced (call (view pass.old).number fresh vector.now id ∷ []) (view pass.old) (view pass.new)) }
+        ensures root { IfNamed result (λ fresh id. HasRoot self.now.nodes.table.about (view pass.new) vector.now id) }
+        ensures last { IfNamed result (λ fresh id. last_vector pass.new ≡ Some vector.now) }
+        ensures nodes { IfNamed result (λ fresh id. Gained self.now.nodes.table.about vector.now (self.now.nodes.table.about.slots - 2) (view pass.old) (view pass.new)) }
+        ensures probes { IfNamed result (λ fresh id. (view pass.new).probes ≡ (view pass.old).probes + (self.now.nodes.table.about.slots - 2)) }
+        ensures ticks { IfNamed result (λ fresh id. L.count steps.new ≡ raised ((self.now.nodes.table.about.slots - 2) + 1) (L.count steps.old)) }
+        ensures full_nodes { IfFullNodes result (Refused self.now.nodes.table.about vector.now (self.now.nodes.table.about.slots - 2) (view pass.old) (view pass.new)) }
+        ensures full_nodes_ticks { IfFullNodes result (RaisedWithin (self.now.nodes.table.about.slots - 2) (L.count steps.old) (L.count steps.new)) }
+        ensures full_roots { IfFullRoots result (HasBlockedRoot self.now.nodes.table.about (view pass.new) vector.now) }
+        ensures full_roots_no_call { IfFullRoots result (Advanced [] (view pass.old) (view pass.new)) }
+        ensures full_roots_nodes { IfFullRoots result (Gained self.now.nodes.table.about vector.now (self.now.nodes.table.about.slots - 2) (view pass.old) (view pass.new)) }
+        ensures full_roots_probes { IfFullRoots result ((view pass.new).probes ≡ (view pass.old).probes + (self.now.nodes.table.about.slots - 2)) }
+        ensures full_roots_ticks { IfFullRoots result (L.count steps.new ≡ raised ((self.now.nodes.table.about.slots - 2) + 1) (L.count steps.old)) }
+        ensures full_last { IfFull result (KeepsLastTree pass.old pass.new) }
+        ensures full_for_good { IfFull result (NeverNamed self.now.nodes.table.table.shared.table_id self.now.nodes.table.about pass.new vector.now) }
+    {
+        put_vector(self, pass, vector, false, steps)
+    }
+
+    /// The same, but only those inner nodes are put below which the vector differs from that of the pass's last tree, if it has one. A step is counted for
+    /// each of these and for the root.
+    pub fn insert_from<L: Ledger>(
+        &self,
+        pass: &mut PlainPass<W, F>,
+        vector: &[u32],
+        steps: &mut Steps<L>,
+    ) -> Reply
+        requires rest { Rests self.now.nodes.table.table.shared.table_id self.now.nodes.table.about pass.old }
+        requires vector { IsVector self.now.nodes.table.about vector.now }
+        ensures rest { Rests self.now.nodes.table.table.shared.table_id self.now.nodes.table.about pass.new }
+        ensures call { IfNamed result (λ fresh id. Advanced (call (view pass.old).number fresh vector.now id ∷ []) (view pass.old) (view pass.new)) }
+        ensures root { IfNamed result (λ fresh id. HasRoot self.now.nodes.table.about (view pass.new) vector.now id) }
+        ensures last { IfNamed result (λ fresh id. last_vector pass.new ≡ Some vector.now) }
+        ensures nodes { IfNamed result (λ fresh id. Gained self.now.nodes.table.about vector.now (puts_after self.now.nodes.table.about (last_vector pass.old) vector.now) (view pass.old) (view pass.new)) }
+        ensures probes { IfNamed result (λ fresh id. (view pass.new).probes ≡ (view pass.old).probes + (puts_after self.now.nodes.table.about (last_vector pass.old) vector.now)) }
+        ensures ticks { IfNamed result (λ fresh id. L.count steps.new ≡ raised ((puts_after self.now.nodes.table.about (last_vector pass.old) vector.now) + 1) (L.count steps.old)) }
+        ensures full_nodes { IfFullNodes result (Refused self.now.nodes.table.about vector.now (puts_after self.now.nodes.table.about (last_vector pass.old) vector.now) (view pass.old) (view pass.new)) }
+        ensures full_nodes_ticks { IfFullNodes result (RaisedWithin (puts_after self.now.nodes.table.about (last_vector pass.old) vector.now) (L.count steps.old) (L.count steps.new)) }
+        ensures full_roots { IfFullRoots result (HasBlockedRoot self.now.nodes.table.about (view pass.new) vector.now) }
+        ensures full_roots_no_call { IfFullRoots result (Advanced [] (view pass.old) (view pass.new)) }
+        ensures full_roots_nodes { IfFullRoots result (Gained self.now.nodes.table.about vector.now (puts_after self.now.nodes.table.about (last_vector pass.old) vector.now) (view pass.old) (view pass.new)) }
+        ensures full_roots_probes { IfFullRoots result ((view pass.new).probes ≡ (view pass.old).probes + (puts_after self.now.nodes.table.about (last_vector pass.old) vector.now)) }
+        ensures full_roots_ticks { IfFullRoots result (L.count steps.new ≡ raised ((puts_after self.now.nodes.table.about (last_vector pass.old) vector.now) + 1) (L.count steps.old)) }
+        ensures full_last { IfFull result (KeepsLastTree pass.old pass.new) }
+        ensures full_for_good { IfFull result (NeverNamed self.now.nodes.table.table.shared.table_id self.now.nodes.table.about pass.new vector.now) }
+    {
+        put_vector(self, pass, vector, true, steps)
     }
 }
