@@ -6,3 +6,6 @@ mod store;
 mod tree;
 
 pub use store::{PlainPass, PlainStore, TreeStore};
+
+#[cfg(test)]
+mod tests;
