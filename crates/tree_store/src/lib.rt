@@ -1,10 +1,14 @@
 //! Vectors of 2 to 1024 slots, each kept as a balanced tree of pairs in one shared table (after Laarman, van de Pol and Weber 2011).
 #![tactic(auto)]
 
+mod create;
+mod fits;
 mod insert;
+mod passes;
 mod store;
 mod tree;
 
+pub use create::CreateError;
 pub use store::{PlainPass, PlainStore, TreeStore};
 
 #[cfg(test)]

@@ -1,0 +1,90 @@
+//! How a plain store is made.
+ghost use Rattle.std.specs.Prelude.{◌≡◌, ℕ, ◌≤◌, ◌↔◌, IsTrue, IfOk, Err, MatchOption, false};
+ghost use Rattle.packed_word.specs.Word.{IsLayout};
+ghost use Rattle.pair_rule.specs.Laws.{IsAbout};
+ghost use Rattle.pair_rule.specs.Rest.{Whole, view};
+ghost use Rattle.pair_rule.specs.View.{newcomer};
+ghost use Rattle.root_plain.specs.Plain.{no_roots, sized, count};
+ghost use Rattle.root_plain.specs.Plays.{Rests};
+ghost use Rattle.tree_store.specs.Ranges.{NodesFit, RootsFit, ProbeFits, IsFirstOut};
+
+use crate::store::{PlainPass, PlainStore, TreeStore};
+use pair_nodes::Nodes;
+use pair_rule::{PairTable, Sizes};
+use root_plain::PlainRoot;
+use std::alloc::Global;
+use tree_shape::Shape;
+
+/// Why there is no such store.
+#[derive(Clone, Copy, Debug, PartialEq, Eq)]
+pub enum CreateError {
+    /// A size is out of its range, the first of: 1 the nodes, 2 the roots, 3 a region of compact roots, 4 the lines of a path.
+    Sizes(u32),
+    /// Memory ran out.
+    NoMemory,
+}
+
+fn nodes_fit<const W: u32>(sizes: &Sizes) -> bool
+    ensures { IsTrue result ↔ NodesFit W sizes.now }
+{
+    3 <= sizes.nodes && sizes.nodes <= 25 && sizes.nodes <= W
+}
+
+fn roots_fit(sizes: &Sizes) -> bool
+    ensures { IsTrue result ↔ RootsFit sizes.now }
+{
+    3 <= sizes.roots && sizes.roots <= 24
+}
+
+fn probe_fits(sizes: &Sizes) -> bool
+    ensures { IsTrue result ↔ ProbeFits sizes.now }
+{
+    1 <= sizes.probe && sizes.probe <= 4194304
+}
+
+// The number of the first size that is out of its range.
+fn first_out<const W: u32>(sizes: &Sizes) -> Option<u32>
+    ensures { MatchOption result (NodesFit W sizes.now × RootsFit sizes.now × ProbeFits sizes.now) (IsFirstOut W sizes.now) }
+{
+    if !nodes_fit::<W>(sizes) {
+        return Some(1);
+    }
+    if !roots_fit(sizes) {
+        return Some(2);
+    }
+    if !probe_fits(sizes) {
+        return Some(4);
+    }
+    None
+}
+
+impl<const W: u32, const F: u32> TreeStore<PlainRoot<W, F>, W, F> {
+    /// A store without vectors, and its first pass, which has the number 0.
+    ///
+    /// The nodes have `2^nodes` buckets with `nodes` from 3 to 25 and at most `W`, the roots `2^roots` with `roots` from 3 to 24, and `probe` is 1 to 4194304;
+    /// `region` is not looked at. `CreateError::Sizes` says which size is the first out of its range, and comes before `NoMemory`.
+    pub fn create(
+        alloc: Global,
+        shape: Shape,
+        sizes: &Sizes,
+    ) -> Result<(PlainStore<W, F>, PlainPass<W, F>), CreateError>
+        requires layout { IsLayout W F }
+        ensures sizes { (n : ℕ) → (result ≡ Err (CreateError.Sizes n)) ↔ IsFirstOut W sizes.now n }
+        ensures about { IfOk result (λ made. IsAbout W F sized count made.0.nodes.table.about × (made.0.nodes.table.about.sizes ≡ sizes.now) × (made.0.nodes.table.about.slots ≡ shape)) }
+        ensures view { IfOk result (λ made. view made.1 ≡ newcomer no_roots made.0.nodes.table.about) }
+        ensures whole { IfOk result (λ made. Whole (view made.1)) }
+        ensures no_tree { IfOk result (λ made. made.1.has_last ≡ false) }
+        ensures rest { IfOk result (λ made. Rests made.0.nodes.table.table.shared.table_id made.0.nodes.table.about made.1) }
+    {
+        if let Some(number) = first_out::<W>(sizes) {
+            return Err(CreateError::Sizes(number));
+        }
+        let Ok((table, pass)) =
+            PairTable::<PlainRoot<W, F>, W, F>::create(alloc, sizes, shape.slots())
+        else {
+            return Err(CreateError::NoMemory);
+        };
+        let nodes = Nodes::over(table);
+        Ok((TreeStore { shape, nodes }, pass))
+    }
+}

@@ -1,0 +1,28 @@
+ghost use Rattle.std.specs.Prelude.{◌≡◌, ℕ, ◌^◌, ◌<◌, ◌≤◌, ◌↔◌, IsTrue, All, slice_index};
+ghost use Rattle.tree_store.specs.Vectors.{IsVector};
+
+use crate::store::TreeStore;
+use pair_rule::RootPart;
+
+// Whether each slot is below 2^W.
+fn all_below<const W: u32>(vector: &[u32]) -> bool
+    requires { W ≤ 31 }
+    ensures { IsTrue result ↔ All (λ x. x < 2 ^ W) vector.now }
+{
+    for i in 0..vector.len() {
+        if vector[i] >> W != 0 {
+            return false;
+        }
+    }
+    true
+}
+
+impl<R: RootPart<W, F>, const W: u32, const F: u32> TreeStore<R, W, F> {
+    /// Whether the store can keep the vector: it has the store's slots, each below `2^W`.
+    pub fn fits(&self, vector: &[u32]) -> bool
+        ensures { IsTrue result ↔ IsVector self.now.nodes.table.about vector.now }
+    {
+        let shape = &self.shape;
+        vector.len() == shape.slots() && all_below::<W>(vector)
+    }
+}
