@@ -1,5 +1,5 @@
 -- What `insert` answers.
-use Rattle.std.proofs.Common.{◌≡◌, ◌≢◌, ℕ, suc, ◌-◌, ◌<◌, ◌≤◌, max, ◌+◌, Bool, true, false, not, List, ◌∷◌, length, Some, None, refl, sym, ap, ◌∙◌, subst, ⊎_elim, arith}
+use Rattle.std.proofs.Common.{◌≡◌, ◌≢◌, ℕ, suc, ◌-◌, ◌<◌, ◌≤◌, max, ◌+◌, Bool, true, false, not, List, ◌∷◌, length, Some, None, refl, sym, ap, ◌∙◌, subst, inl, inr, ⊎_elim, arith}
 use Rattle.std.proofs.lemmas.Bool.{cases_lt, not-true}
 use Rattle.cleary_core.specs.declared.cells.Cell.{Cell}
 use Rattle.cleary_core.specs.Cells.{carried}
@@ -151,6 +151,7 @@ near_alone n old new home quotient inside put = record {
   high = suc home;
   span = (omega arith, omega arith, inside);
   row = λ i a b. ap (λ m. (new m).occupied) (omega arith) ∙ ap (λ (c : Cell). c.occupied) put.here;
+  was = inl (λ i a b. absurd (omega arith));
   others = λ j away. ⊎_elim
       (λ (less : j < home). same_off old new home home quotient true put j (λ e. omega arith) (λ e. omega arith))
       (λ (past : suc home ≤ j). same_off old new home home quotient true put j (λ e. omega arith) (λ e. omega arith))
@@ -163,6 +164,7 @@ near_still n cells home inside t = record {
   high = suc home;
   span = (omega arith, omega arith, inside);
   row = λ i a b. ap (λ m. (cells m).occupied) (omega arith) ∙ t;
+  was = inl (λ i a b. absurd (omega arith));
   others = λ j away. refl;
 }
 
@@ -179,6 +181,7 @@ module _ (n : ℕ) (old mid new : ℕ → Cell) (start place home end quotient :
         (λ (same : i ≡ place). ap (λ m. (new m).occupied) same ∙ ap (λ (c : Cell). c.occupied) put.here)
         (λ (ne : i ≢ place). occupied_from old mid new place home quotient i (from_left place end i) fresh (old i).virgin put ne (up_at old mid place end shift most i ne) (whole (from_left place end i) (omega arith) (omega arith)))
         (cases_same i place);
+    was = inl (λ i a b. whole i a (omega arith));
     others = λ j away. ⊎_elim
         (λ (less : j < start). same_off mid new place home quotient fresh put j (λ e. omega arith) (λ e. omega arith) ∙ shift.below j (omega arith))
         (λ (past : suc end ≤ j). same_off mid new place home quotient fresh put j (λ e. omega arith) (λ e. omega arith) ∙ shift.above j past)
@@ -195,6 +198,7 @@ module _ (n : ℕ) (old mid new : ℕ → Cell) (start place home end quotient :
         (λ (ne : i ≢ place - 1). occupied_from old mid new (place - 1) home quotient i (from_right (start - 1) (place - 1) i) fresh (old i).virgin put ne (down_at old mid (start - 1) (place - 1) shift (omega arith) i ne)
         (whole (from_right (start - 1) (place - 1) i) (omega arith) (omega arith)))
         (cases_same i (place - 1));
+    was = inr (λ i a b. whole i (omega arith) b);
     others = λ j away. ⊎_elim
         (λ (less : j < start - 1). same_off mid new (place - 1) home quotient fresh put j (λ e. omega arith) (λ e. omega arith) ∙ shift.below j less)
         (λ (past : end ≤ j). same_off mid new (place - 1) home quotient fresh put j (λ e. omega arith) (λ e. omega arith) ∙ shift.above j (omega arith))

@@ -1,5 +1,5 @@
 -- What an insertion does to the cells.
-use Rattle.std.specs.Prelude.{◌≡◌, ◌≢◌, ◌⊎◌, ℕ, suc, ◌<◌, ◌≤◌, Bool, true, not, List}
+use Rattle.std.specs.Prelude.{◌≡◌, ◌≢◌, ◌⊎◌, ℕ, suc, ◌-◌, ◌<◌, ◌≤◌, Bool, true, not, List}
 use Rattle.cleary_core.specs.declared.cells.Cell.{Cell}
 use Rattle.cleary_core.specs.Answers.{Present}
 use Rattle.cleary_core.specs.Cells.{carried}
@@ -32,12 +32,13 @@ pub record Belongs (n : ℕ) (cells : ℕ → Cell) (slots : Slots) (keys : List
   pub absent : Present keys home quotient → ⊥
   pub first : fresh ≡ not (cells home).virgin
 
--- only cells of the home's run change: those from `low` up to `high`, which are occupied afterwards
+-- only cells of the home's run change: those from `low` up to `high`, which are occupied afterwards, and were before but for the first or the last
 pub record InOneRun (n : ℕ) (old new : ℕ → Cell) (home : ℕ) : Type 0 where
   pub low : ℕ
   pub high : ℕ
   pub span : (low ≤ home) × (home < high) × (high ≤ n)
   pub row : Row new low high
+  pub was : Row old low (high - 1) ⊎ Row old (suc low) high
   pub others : (j : ℕ) → (j < low) ⊎ (high ≤ j) → new j ≡ old j
 
 -- at most the flags of one cell change
