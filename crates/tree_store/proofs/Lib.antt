@@ -4,3 +4,5 @@ pub mod Marks
 pub mod Roots
 pub mod Never
 pub mod Inserts
+pub mod Census
+pub mod Opens

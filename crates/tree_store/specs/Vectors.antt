@@ -71,6 +71,10 @@ slots_of about tree = drop about.slots tree
 abbrev pub StandsFrom : About → Vector → ℕ → List (ℕ × ℕ) → List ℕ → Type 0
 StandsFrom about v first nodes tree = (position : ℕ) → first ≤ position → position < 2 * about.slots → Stands about.width about.slots nodes v position (slice_index tree position)
 
+-- the tree that is being read stands at the positions before this one
+abbrev pub StandsTo : About → Vector → ℕ → List (ℕ × ℕ) → List ℕ → Type 0
+StandsTo about v end nodes tree = (position : ℕ) → 2 ≤ position → position < end → Stands about.width about.slots nodes v position (slice_index tree position)
+
 module _ {T : Type 0} where
   -- the new view put some nodes of the vector's tree, at most so many, and no others
   pub record Gained (about : About) (v : Vector) (most : ℕ) (old new : View T) : Type 0 where

@@ -1,12 +1,15 @@
 //! Vectors of 2 to 1024 slots, each kept as a balanced tree of pairs in one shared table (after Laarman, van de Pol and Weber 2011).
 #![tactic(auto)]
 
+mod counts;
 mod create;
 mod fits;
 mod insert;
 mod passes;
+mod read;
 mod store;
 mod tree;
+mod unfold;
 
 pub use create::CreateError;
 pub use store::{PlainPass, PlainStore, TreeStore};
