@@ -1,5 +1,5 @@
 -- Puts one after the other, and what is kept of the last tree.
-use Rattle.std.proofs.Common.{◌≡◌, ◌≢◌, ◌⊎◌, ℕ, zero, suc, ◌+◌, ◌-◌, ◌*◌, ◌<◌, ◌≤◌, List, [], ◌∷◌, ◌++◌, length, drop, set, get_or, Bool, true, false, Option, refl, sym, ap, ◌∙◌, subst, inl, inr, ⊎_elim, arith, append_assoc, length-append, length-drop}
+use Rattle.std.proofs.Common.{◌≡◌, ℕ, suc, ◌+◌, ◌*◌, ◌<◌, ◌≤◌, List, [], ◌++◌, length, Option, refl, sym, ap, ◌∙◌, ⊎_elim, arith, append_assoc, length-append, length-drop}
 use Rattle.std.specs.Prelude.{option_map}
 use Rattle.tree_shape.specs.Tree.{Has, IsPart, Stands}
 use Rattle.tree_shape.specs.Changed.{IsChanged}
@@ -9,12 +9,10 @@ use Rattle.tdb_base.specs.Fakes.{counted}
 use Rattle.pair_rule.specs.declared.view.View.{View}
 use Rattle.pair_rule.specs.declared.sizes.About.{About}
 use Rattle.pair_rule.specs.declared.pass.PassOf.{PassOf}
-use Rattle.pair_rule.specs.View.{Grown}
 use Rattle.pair_rule.proofs.Lists.{has_either}
 use Rattle.pair_nodes.specs.Probe.{Probed}
 use Rattle.pair_nodes.proofs.Views.{grown_refl, grown_trans}
-use Rattle.tree_store.specs.Vectors.{IsVector, IsInTree, slots_of, StandsFrom, raised, RaisedWithin, IsBlockedInside, Gained, Building, Refused, KeepsLast}
-use Rattle.tree_store.proofs.Positions.{stands_from_more}
+use Rattle.tree_store.specs.Vectors.{IsInTree, slots_of, raised, IsBlockedInside, Gained, Building, Refused, KeepsLast}
 
 pub slots_long : (about : About) (tree : List ℕ) → length tree ≡ 2 * about.slots → length (slots_of about tree) ≡ about.slots
 slots_long about tree long = length-drop about.slots tree ∙ (omega (arith, long))

@@ -1,8 +1,8 @@
 -- An insertion as its parts: the slots are filled, inner nodes are put, and then the root.
-use Rattle.std.proofs.Common.{◌≡◌, ◌≢◌, ℕ, ◌+◌, ◌-◌, ◌*◌, ◌<◌, ◌≤◌, List, [], ◌∷◌, ◌++◌, length, drop, get_or, Bool, true, false, Option, refl, sym, ap, ◌∙◌, subst, arith}
+use Rattle.std.proofs.Common.{◌≡◌, ℕ, ◌+◌, ◌-◌, ◌*◌, List, [], ◌∷◌, length, get_or, Bool, true, false, sym, ap, ◌∙◌, subst, arith}
 use Rattle.std.proofs.lemmas.List.{get_or-drop}
 use Rattle.atomic_table.specs.Seated.{TableId}
-use Rattle.tree_shape.specs.Tree.{Has, IsPart, Stands, slot}
+use Rattle.tree_shape.specs.Tree.{Has, IsPart, slot}
 use Rattle.tdb_base.specs.History.{Vector, History, calls}
 use Rattle.tdb_base.specs.Legal.{Extends}
 use Rattle.tdb_base.specs.declared.reply.Reply.{Reply}

@@ -1,9 +1,9 @@
 -- A vector for which there was no place never gets a name.
-use Rattle.std.proofs.Common.{◌≡◌, ◌≢◌, ◌⊎◌, ℕ, zero, suc, ◌+◌, ◌-◌, ◌*◌, ◌/◌, ◌%◌, ◌^◌, ◌<◌, ◌≤◌, List, Option, Some, None, refl, sym, ap, ◌∙◌, subst, inl, inr, ⊎_elim, arith}
+use Rattle.std.proofs.Common.{◌≡◌, ◌≢◌, ◌⊎◌, ℕ, zero, suc, ◌+◌, ◌*◌, ◌^◌, ◌<◌, ◌≤◌, List, Option, Some, None, refl, sym, ap, ◌∙◌, subst, inl, inr, ⊎_elim, arith}
 use Rattle.std.proofs.lemmas.Nat.{shr_split}
 use Rattle.std.proofs.lemmas.Bool.{cases_lt, cases_eq}
 use Rattle.atomic_table.specs.Seated.{TableId}
-use Rattle.tree_shape.specs.Tree.{Has, IsPart, left_part, right_part, Stands, RootStands}
+use Rattle.tree_shape.specs.Tree.{Has, left_part, right_part, Stands, RootStands}
 use Rattle.tree_shape.proofs.Trees.{at_pair, stands_more, one_number}
 use Rattle.tdb_base.specs.History.{Vector, name_of}
 use Rattle.tdb_base.specs.declared.reply.Reply.{Reply}

@@ -1,5 +1,5 @@
 -- A tree is read from its root pair down.
-use Rattle.std.proofs.Common.{◌≡◌, ◌≢◌, ℕ, suc, ◌+◌, ◌-◌, ◌*◌, ◌^◌, ◌<◌, ◌≤◌, List, [], ◌∷◌, length, drop, set, get_or, Bool, Some, refl, sym, ap, ◌∙◌, subst, ⊎_elim, arith, get_or-set_same, get_or-set_other, length-set, length-drop}
+use Rattle.std.proofs.Common.{◌≡◌, ◌≢◌, ℕ, ◌+◌, ◌-◌, ◌*◌, ◌^◌, ◌<◌, ◌≤◌, List, length, set, get_or, Some, sym, ap, ◌∙◌, subst, ⊎_elim, arith, get_or-set_same, get_or-set_other, length-set, length-drop}
 use Rattle.std.proofs.lemmas.Nat.{shr_high, mod_low}
 use Rattle.std.proofs.lemmas.Bool.{cases_eq}
 use Rattle.std.proofs.lemmas.List.{get_or-drop}
@@ -34,9 +34,10 @@ module _ (about : About) (width : ℕ) (is : about.width ≡ width) (v : Vector)
   -- two parts stand where those of their pair do
   both_stand : (position : ℕ) → Stands about.width about.slots nodes v (2 * position) (left_part about.width (pair_of width left right))
       → Stands about.width about.slots nodes v (2 * position + 1) (right_part about.width (pair_of width left right)) → Stands about.width about.slots nodes v (2 * position) left × Stands about.width about.slots nodes v (2 * position + 1) right
-  both_stand position l r =
-      (subst (λ (n : ℕ). Stands about.width about.slots nodes v (2 * position) n) (ap (λ (w : ℕ). left_part w (pair_of width left right)) is ∙ shr_high left width right small) l,
-      subst (λ (n : ℕ). Stands about.width about.slots nodes v (2 * position + 1) n) (ap (λ (w : ℕ). right_part w (pair_of width left right)) is ∙ mod_low left width right small) r)
+  both_stand position l r = (
+    subst (λ (n : ℕ). Stands about.width about.slots nodes v (2 * position) n) (ap (λ (w : ℕ). left_part w (pair_of width left right)) is ∙ shr_high left width right small) l,
+    subst (λ (n : ℕ). Stands about.width about.slots nodes v (2 * position + 1) n) (ap (λ (w : ℕ). right_part w (pair_of width left right)) is ∙ mod_low left width right small) r,
+  )
 
   -- below the root
   pub root_parts : RootStands about.width about.slots nodes (pair_of width left right) v → Stands about.width about.slots nodes v 2 left × Stands about.width about.slots nodes v 3 right

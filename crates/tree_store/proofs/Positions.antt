@@ -1,21 +1,20 @@
 -- The numbers at the positions of a vector's tree.
-use Rattle.std.proofs.Common.{◌≡◌, ◌≢◌, ◌⊎◌, ℕ, suc, ◌+◌, ◌-◌, ◌*◌, ◌/◌, ◌%◌, ◌^◌, ◌<◌, ◌≤◌, List, [], ◌∷◌, ◌++◌, length, drop, set, get_or, refl, sym, ap, ◌∙◌, subst, inl, inr, ⊎_elim, arith, get_or-set_same, get_or-set_other}
+use Rattle.std.proofs.Common.{◌≡◌, ◌≢◌, ℕ, ◌+◌, ◌-◌, ◌*◌, ◌^◌, ◌<◌, ◌≤◌, List, [], ◌∷◌, length, set, get_or, sym, ◌∙◌, subst, ⊎_elim, arith, get_or-set_same, get_or-set_other}
 use Rattle.std.proofs.lemmas.Nat.{shr_high, mod_low}
 use Rattle.std.proofs.Math.Pow.{pow_mono}
 use Rattle.std.proofs.lemmas.Bool.{cases_lt, cases_eq}
 use Rattle.std.proofs.lemmas.Grind.{get_or_default_zero}
 use lib.Seq.{drop-set-lt}
-use Rattle.tree_shape.specs.Tree.{Has, IsPart, left_part, right_part, Stands, node}
+use Rattle.tree_shape.specs.Tree.{Has, IsPart, Stands, node}
 use Rattle.tree_shape.proofs.Trees.{at_slot, at_pair, stands_more}
 use Rattle.tdb_base.specs.History.{Vector}
 use Rattle.packed_word.specs.Word.{pair_of}
 use Rattle.pair_rule.specs.declared.view.View.{View}
 use Rattle.pair_rule.specs.declared.sizes.About.{About}
-use Rattle.pair_rule.specs.View.{Grown}
-use Rattle.pair_rule.specs.Paths.{node_buckets, size}
+use Rattle.pair_rule.specs.Paths.{size}
 use Rattle.pair_rule.specs.Rest.{AreNodes}
 use Rattle.pair_nodes.specs.Probe.{PutAt}
-use Rattle.tree_store.specs.Vectors.{IsVector, IsInTree, slots_of, StandsFrom, Gained, Building}
+use Rattle.tree_store.specs.Vectors.{IsVector, IsInTree, slots_of, StandsFrom, Building}
 
 -- a number at a position is small enough for a part of a pair
 pub stands_small : (about : About) (nodes : List (ℕ × ℕ)) (v : Vector) (position x : ℕ) → AreNodes about nodes → about.sizes.nodes ≤ about.width → IsVector about v → position < 2 * about.slots
@@ -62,9 +61,14 @@ module _ {T : Type 0} where
     grown = put.grown;
     gained = ⊎_elim
         (λ (same : new.made ≡ old.made). record { more = []; made = same; few = omega arith; in_tree = λ i h. absurd h })
-        (λ (one : (new.made ≡ index ∷ old.made) × ((pair : ℕ) → Has (index, pair) old.known → ⊥)). record { more = index ∷ []; made = one.0; few = omega arith; in_tree = λ i h. ⊎_elim
-            (λ (is : i ≡ index). let found : IsInTree about new.known v i = (position, low, high, subst (λ (n : ℕ). Stands about.width about.slots new.known v position n) (sym is) stands) in found)
-            (λ (no : ⊥). absurd no) h })
+        (λ (one : (new.made ≡ index ∷ old.made) × ((pair : ℕ) → Has (index, pair) old.known → ⊥)). record {
+          more = index ∷ [];
+          made = one.0;
+          few = omega arith;
+          in_tree = λ i h. ⊎_elim
+              (λ (is : i ≡ index). let found : IsInTree about new.known v i = (position, low, high, subst (λ (n : ℕ). Stands about.width about.slots new.known v position n) (sym is) stands) in found)
+              (λ (no : ⊥). absurd no) h;
+        })
         put.made;
     probes_are = put.probes_are;
   }

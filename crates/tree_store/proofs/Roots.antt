@@ -1,8 +1,8 @@
 -- The root pair of a tree that was put, and the tree as the last one of a pass.
-use Rattle.std.proofs.Common.{◌≡◌, ℕ, ◌+◌, ◌*◌, ◌^◌, ◌<◌, ◌≤◌, List, length, drop, get_or, Bool, true, false, refl, sym, ap, ◌∙◌, subst, arith, get_or-drop}
+use Rattle.std.proofs.Common.{◌≡◌, ℕ, ◌*◌, ◌^◌, ◌<◌, ◌≤◌, List, length, get_or, Bool, true, false, sym, subst, arith, get_or-drop}
 use Rattle.std.proofs.lemmas.Nat.{shr_high, mod_low}
 use Rattle.atomic_table.specs.Seated.{TableId}
-use Rattle.tree_shape.specs.Tree.{Has, IsPart, Stands, RootStands}
+use Rattle.tree_shape.specs.Tree.{IsPart, Stands, RootStands}
 use Rattle.tree_shape.proofs.Trees.{stands_more}
 use Rattle.tdb_base.specs.History.{Vector, History}
 use Rattle.packed_word.specs.Word.{pair_of}
@@ -34,9 +34,10 @@ root_read about width v tree left right fit same two is nodes long vector from r
     record {
       left_small = subst (λ (w : ℕ). left < 2 ^ w) same small_left;
       right_small = subst (λ (w : ℕ). right < 2 ^ w) same small_right;
-      stands = subst (λ (w : ℕ). RootStands about.width about.slots v.known (pair_of w left right) vec) same
-          (subst (λ (n : ℕ). Stands about.width about.slots v.known vec 2 n) (sym (shr_high left about.width right small_right)) l,
-          subst (λ (n : ℕ). Stands about.width about.slots v.known vec 3 n) (sym (mod_low left about.width right small_right)) r);
+      stands = subst (λ (w : ℕ). RootStands about.width about.slots v.known (pair_of w left right) vec) same (
+        subst (λ (n : ℕ). Stands about.width about.slots v.known vec 2 n) (sym (shr_high left about.width right small_right)) l,
+        subst (λ (n : ℕ). Stands about.width about.slots v.known vec 3 n) (sym (mod_low left about.width right small_right)) r,
+      );
     }
 
 pub root_stands_more : (width slots : ℕ) (nodes more : List (ℕ × ℕ)) (pair : ℕ) (v : Vector) → IsPart nodes more → RootStands width slots nodes pair v → RootStands width slots more pair v

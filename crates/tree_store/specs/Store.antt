@@ -1,5 +1,5 @@
 -- What a call on a plain store leaves of a pass.
-use Rattle.std.specs.Prelude.{◌≡◌, ℕ, ◌+◌, ◌*◌, List, [], ◌∷◌, ◌++◌, Option, Some, None, Bool, true, false, ⊤}
+use Rattle.std.specs.Prelude.{◌≡◌, ℕ, ◌++◌, None, Bool, true, false, ⊤}
 use Rattle.atomic_table.specs.Seated.{TableId}
 use Rattle.tree_shape.specs.Tree.{Has, IsPart, RootStands}
 use Rattle.tdb_base.specs.History.{Vector, History, name_of, calls}

@@ -1,17 +1,16 @@
 -- Vectors of a store, and the trees that keep them.
-use Rattle.std.specs.Prelude.{◌≡◌, ◌≢◌, ℕ, zero, suc, ◌+◌, ◌-◌, ◌*◌, ◌^◌, ◌<◌, ◌≤◌, List, ◌++◌, All, Option, Some, None, Bool, true, false, length, drop, min, slice_index, slice_index_or, option_map, if◌then◌else◌}
+use Rattle.std.specs.Prelude.{◌≡◌, ℕ, zero, suc, ◌+◌, ◌-◌, ◌*◌, ◌^◌, ◌<◌, ◌≤◌, List, ◌++◌, All, Option, Some, None, Bool, false, length, drop, slice_index, slice_index_or, option_map, if◌then◌else◌}
 use Rattle.tree_shape.specs.Tree.{Has, Stands, RootStands}
 use Rattle.tree_shape.specs.Changed.{IsChanged, IsMarked, marked_count, changed_count}
-use Rattle.tdb_base.specs.History.{Vector, History, name_of, calls}
-use Rattle.tdb_base.specs.Legal.{Extends}
+use Rattle.tdb_base.specs.History.{Vector}
 use Rattle.tdb_base.specs.Fakes.{counted}
 use Rattle.packed_word.specs.Word.{pair_of}
 use Rattle.pair_rule.specs.declared.view.View.{View}
 use Rattle.pair_rule.specs.declared.sizes.About.{About}
 use Rattle.pair_rule.specs.declared.pass.PassOf.{PassOf}
-use Rattle.pair_rule.specs.View.{face, Grown}
+use Rattle.pair_rule.specs.View.{Grown}
 use Rattle.pair_rule.specs.Paths.{node_buckets, Blocked}
-use Rattle.pair_rule.specs.Rest.{view, last_vector}
+use Rattle.pair_rule.specs.Rest.{last_vector}
 
 -- the vector has the store's slots, each below 2 ^ width
 pub record IsVector (about : About) (v : Vector) : Type 0 where

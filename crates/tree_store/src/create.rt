@@ -79,9 +79,11 @@ impl<const W: u32, const F: u32> TreeStore<PlainRoot<W, F>, W, F> {
         if let Some(number) = first_out::<W>(sizes) {
             return Err(CreateError::Sizes(number));
         }
-        let Ok((table, pass)) =
-            PairTable::<PlainRoot<W, F>, W, F>::create(alloc, sizes, shape.slots())
-        else {
+        let Ok((table, pass)) = PairTable::<PlainRoot<W, F>, W, F>::create(
+            alloc,
+            sizes,
+            shape.slots(),
+        ) else {
             return Err(CreateError::NoMemory);
         };
         let nodes = Nodes::over(table);

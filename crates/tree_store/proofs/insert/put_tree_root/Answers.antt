@@ -1,12 +1,11 @@
-use Rattle.std.proofs.Common.{arith, ◌≡◌, ◌+◌, ◌*◌, ◌^◌, ◌<◌, ◌≤◌, sym, subst, ap, refl, ◌∙◌, ℕ, length, Bool, true, false, [], ◌∷◌}
-use Rattle.tree_shape.specs.Tree.{RootStands}
+use Rattle.std.proofs.Common.{arith, sym, subst, ap, [], ◌∷◌}
 use Rattle.packed_word.specs.Word.{pair_of}
 use Rattle.pair_rule.specs.Rest.{view}
 use Rattle.root_plain.specs.Plain.{Told}
 use Rattle.root_plain.specs.Plays.{Rests, CaughtUp, call, roots_of, house_of}
 use Rattle.tree_store.specs.Store.{HasRoot}
 use Rattle.tree_store.specs.Vectors.{IsVector, slots_of, StandsFrom}
-use Rattle.tree_store.proofs.Roots.{RootRead, root_read, rests_kept, stands_from_grown, of_naming, root_stands_more}
+use Rattle.tree_store.proofs.Roots.{root_read, rests_kept, stands_from_grown, of_naming, root_stands_more}
 use Rattle.tree_store.proofs.insert.put_tree_root.Goals as goal
 
 pub put_root-requires : goal.put_root-requires

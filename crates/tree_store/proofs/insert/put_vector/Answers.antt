@@ -1,9 +1,9 @@
-use Rattle.std.proofs.Common.{arith, ◌≡◌, ◌*◌, ◌∙◌, sym, subst, ap, refl, ℕ, [], ◌∷◌, Bool, drop, length}
+use Rattle.std.proofs.Common.{arith, ◌≡◌, ◌*◌, ◌∙◌, sym, subst, ℕ, [], ◌∷◌, drop, length}
 use Rattle.tdb_base.specs.History.{Vector}
 use Rattle.pair_rule.specs.Rest.{view}
 use Rattle.root_plain.specs.Plain.{Told}
-use Rattle.root_plain.specs.Plays.{Rests, CaughtUp, call, roots_of, house_of}
-use Rattle.tree_store.specs.Vectors.{IsVector, slots_of, StandsFrom, compared, puts_after, Gained, Building, IsBlockedInside}
+use Rattle.root_plain.specs.Plays.{CaughtUp, call, roots_of, house_of}
+use Rattle.tree_store.specs.Vectors.{IsVector, slots_of, StandsFrom, compared, puts_after, Gained, IsBlockedInside}
 use Rattle.tree_store.specs.Store.{HasBlockedRoot, NeverNamed, Advanced}
 use Rattle.tree_store.proofs.Inserts.{leaves_stand, rests_filled, built_filled, advanced_none, advanced_call, gained_before, named_so, full_roots_so}
 use Rattle.tree_store.proofs.Never.{inside_never_named, root_never_named, full_of_roots}
@@ -18,9 +18,19 @@ put_nodes-requires g c =
     let is = c.slots.ensures.value ∙ s.slots in
     let e = c.fill_slots.ensures in
     let vector : slots_of about q.next_tree.items ≡ c.args.vector.now = subst (λ (k : ℕ). drop k q.next_tree.items ≡ c.args.vector.now) is e.slots in
-    let long = subst (λ (k : ℕ). length q.next_tree.items ≡ 2 * k) is e.length in
-    (omega arith, (rests_filled roots_of house_of Told t.table.shared.table_id about c.args.pass.now q c.requires.rest e.tree long, (s.slots, (subst (λ (l : Vector). IsVector about l) (sym vector) c.requires.vector,
-    subst (λ (k : ℕ). StandsFrom about (slots_of about q.next_tree.items) k (view q).known q.next_tree.items) (sym s.slots) (leaves_stand about (view q).known q.next_tree.items)))))
+    let long = subst (λ (k : ℕ). length q.next_tree.items ≡ 2 * k) is e.length in (
+      omega arith,
+      (
+        rests_filled roots_of house_of Told t.table.shared.table_id about c.args.pass.now q c.requires.rest e.tree long,
+        (
+          s.slots,
+          (
+            subst (λ (l : Vector). IsVector about l) (sym vector) c.requires.vector,
+            subst (λ (k : ℕ). StandsFrom about (slots_of about q.next_tree.items) k (view q).known q.next_tree.items) (sym s.slots) (leaves_stand about (view q).known q.next_tree.items),
+          ),
+        ),
+      ),
+    )
 
 pub returns-in_default-clause-full_for_good : goal.returns-in_default-clause-full_for_good
 returns-in_default-clause-full_for_good g c =

@@ -1,4 +1,4 @@
-use Rattle.std.proofs.Common.{arith, ◌≡◌, ◌+◌, ◌*◌, ◌<◌, ◌≤◌, sym, subst, ap, refl, ◌∙◌, ℕ, get_or}
+use Rattle.std.proofs.Common.{arith, sym, subst, ◌∙◌, ℕ}
 use Rattle.std.proofs.lemmas.Grind.{get_or_default_zero}
 use Rattle.tree_shape.specs.Tree.{Stands}
 use Rattle.pair_rule.specs.Rest.{view}

@@ -1,7 +1,7 @@
-use Rattle.std.proofs.Common.{arith, ◌≡◌, ◌+◌, ◌-◌, ◌*◌, ◌<◌, ◌≤◌, sym, subst, ap, refl, ◌∙◌, ℕ, List}
+use Rattle.std.proofs.Common.{arith, ◌≡◌, ◌+◌, ◌-◌, sym, subst, ap, refl, ◌∙◌, ℕ}
 use Rattle.tdb_base.specs.History.{Vector}
 use Rattle.pair_rule.specs.Rest.{view}
-use Rattle.tree_store.specs.Vectors.{slots_of, IsVector, StandsFrom, Building, raised, IsBlockedInside}
+use Rattle.tree_store.specs.Vectors.{slots_of, StandsFrom, Building, raised, IsBlockedInside}
 use Rattle.tree_store.proofs.Builds.{ticked_more, built_none, built_then, refused_then, keeps_last_then}
 use Rattle.tree_store.proofs.tree.put_all.Goals as goal
 

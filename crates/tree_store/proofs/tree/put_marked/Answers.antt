@@ -1,8 +1,8 @@
-use Rattle.std.proofs.Common.{arith, ◌≡◌, ◌+◌, ◌-◌, ◌*◌, ◌<◌, ◌≤◌, sym, subst, ap, refl, ◌∙◌, ℕ, List, length}
+use Rattle.std.proofs.Common.{arith, ◌≡◌, ◌+◌, ◌-◌, subst, ap, ◌∙◌, ℕ}
 use Rattle.tdb_base.specs.History.{Vector}
 use Rattle.pair_rule.specs.Rest.{view}
-use Rattle.tree_store.specs.Vectors.{slots_of, IsVector, StandsFrom, Building, raised, mark_at, marks_from, IsBlockedInside, MarksChanges}
-use Rattle.tree_store.proofs.Builds.{ticked_more, built_none, built_then, refused_then, keeps_last_then}
+use Rattle.tree_store.specs.Vectors.{slots_of, StandsFrom, Building, raised, mark_at, marks_from, IsBlockedInside}
+use Rattle.tree_store.proofs.Builds.{ticked_more, built_then, refused_then, keeps_last_then}
 use Rattle.tree_store.proofs.Marks.{marks_step, marks_later, raised_then}
 use Rattle.tree_store.proofs.tree.put_marked.Goals as goal
 
@@ -51,7 +51,7 @@ loop-i-preserved g c =
     let place : (c.args.slots + 2) - c.loop-i.i ≡ p + 1 = omega arith in
     let step = marks_step marks p (omega (arith, long)) in
     let more : marks_from ((c.args.slots + 2) - c.loop-i.i) marks + mark_at marks p ≡ marks_from ((c.args.slots + 2) - (c.loop-i.i + 1)) marks =
-        let a = ap (λ (n : ℕ). marks_from n marks) place in let b = ap (λ (n : ℕ). marks_from n marks) next in omega (arith, a, b, step) in
+    let a = ap (λ (n : ℕ). marks_from n marks) place in let b = ap (λ (n : ℕ). marks_from n marks) next in omega (arith, a, b, step) in
     let stands = subst (λ (v : Vector). StandsFrom about v p w.known c.put_or_keep.new.pass.next_tree.items) i.vector e.stands in
     let put = subst (λ m. Building about vec (mark_at m.items p) (view c.loop-i.pass) w) i.marks (subst (λ (v : Vector). Building about v (mark_at c.loop-i.pass.marks.items p) (view c.loop-i.pass) w) i.vector e.put) in
     let ticks = subst (λ m. g.L.Ledger.count c.put_or_keep.new.steps ≡ raised (mark_at m.items p) (g.L.Ledger.count c.loop-i.steps)) i.marks e.ticks in

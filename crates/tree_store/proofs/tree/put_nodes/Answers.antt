@@ -1,4 +1,4 @@
-use Rattle.std.proofs.Common.{arith, ◌≡◌, ◌∙◌, sym, subst, ap, ℕ, IfOk, OnErr, length, drop}
+use Rattle.std.proofs.Common.{◌≡◌, ◌∙◌, sym, subst, ℕ, IfOk, OnErr, drop}
 use Rattle.tree_shape.specs.Changed.{IsChanged, marked_count, changed_count}
 use Rattle.pair_rule.specs.Rest.{view}
 use Rattle.tree_store.specs.Vectors.{slots_of, Building, Refused, raised, RaisedWithin, marks_from, compared, puts_after}

@@ -1,13 +1,11 @@
-use Rattle.std.proofs.Common.{arith, ◌≡◌, ◌+◌, ◌*◌, ◌^◌, ◌<◌, ◌≤◌, sym, subst, ap, refl, ◌∙◌, ℕ, length, set}
+use Rattle.std.proofs.Common.{arith, ◌+◌, ◌*◌, ◌^◌, ◌<◌, ◌≤◌, sym, subst, ap, ℕ, set}
 use Rattle.std.proofs.Math.Pow.{pow_mono}
-use Rattle.tree_shape.specs.Tree.{Stands}
 use Rattle.tree_shape.proofs.Trees.{stands_more}
 use Rattle.packed_word.specs.Word.{pair_of}
-use Rattle.pair_rule.specs.declared.sizes.About.{About}
 use Rattle.pair_rule.specs.Paths.{node_buckets, size, Blocked}
-use Rattle.pair_rule.specs.Rest.{AreNodes, view}
-use Rattle.tree_store.specs.Vectors.{IsBlockedInside, slots_of, StandsFrom}
-use Rattle.tree_store.proofs.Positions.{stands_small, stands_here, stands_from_more, put_stands, built_one, read_tree, nodes_of}
+use Rattle.pair_rule.specs.Rest.{view}
+use Rattle.tree_store.specs.Vectors.{slots_of, StandsFrom}
+use Rattle.tree_store.proofs.Positions.{stands_small, stands_from_more, put_stands, built_one, read_tree, nodes_of}
 use Rattle.tree_store.proofs.tree.put_position.Goals as goal
 
 pub find_or_put-requires : goal.find_or_put-requires
@@ -68,7 +66,7 @@ returns-clause-stands g c =
     let w = view c.find_or_put.new.pass in
     let same = ap (λ p. p.next_tree.items) e.tree in
     let here = put_stands c.args.nodes.now.table.nodes.2 c.args.nodes.now.table.width v w tree c.args.p c.in-Ok.index c.index.result.now c.index-2.result.now r.inner.0 r.inner.1 r.rest.seat.about_is r.rest.seat.sound.nodes r.rest.next_length r.vector r.stands
-        c.index.ensures c.index-2.ensures e.put.grown.known e.known in
+    c.index.ensures c.index-2.ensures e.put.grown.known e.known in
     subst (λ l. StandsFrom about (slots_of about tree) c.args.p w.known (set l c.args.p c.in-Ok.index)) (sym same)
     (stands_from_more about (slots_of about tree) c.args.p c.in-Ok.index v.known w.known tree (omega (arith, r.rest.next_length)) e.put.grown.known r.stands here)
 
@@ -81,5 +79,5 @@ returns-clause-put g c =
     let e = c.in-Ok.ensures in
     let w = view c.find_or_put.new.pass in
     let here = put_stands c.args.nodes.now.table.nodes.2 c.args.nodes.now.table.width v w tree c.args.p c.in-Ok.index c.index.result.now c.index-2.result.now r.inner.0 r.inner.1 r.rest.seat.about_is r.rest.seat.sound.nodes r.rest.next_length r.vector r.stands
-        c.index.ensures c.index-2.ensures e.put.grown.known e.known in
+    c.index.ensures c.index-2.ensures e.put.grown.known e.known in
     built_one about (slots_of about tree) c.args.p c.in-Ok.index v w r.inner.0 r.inner.1 e.put here

@@ -1,4 +1,4 @@
-use Rattle.std.proofs.Common.{arith, ◌≡◌, ◌+◌, ◌*◌, ◌<◌, ◌≤◌, ◌∙◌, sym, subst, ap, ℕ}
+use Rattle.std.proofs.Common.{arith, ◌≡◌, ◌+◌, ◌*◌, subst, ℕ}
 use Rattle.pair_rule.specs.Rest.{view}
 use Rattle.tree_store.specs.Vectors.{StandsTo}
 use Rattle.tree_store.proofs.Builds.{keeps_last_then}

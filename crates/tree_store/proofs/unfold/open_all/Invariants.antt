@@ -1,4 +1,4 @@
-use Rattle.std.specs.Prelude.{◌≡◌, ◌*◌}
+use Rattle.std.specs.Prelude.{◌*◌}
 use Rattle.tdb_base.specs.History.{Vector}
 use Rattle.pair_rule.specs.Rest.{AtRest, view}
 use Rattle.pair_nodes.specs.Probe.{Probed}

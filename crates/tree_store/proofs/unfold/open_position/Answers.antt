@@ -1,7 +1,5 @@
-use Rattle.std.proofs.Common.{arith, ◌≡◌, ◌+◌, ◌*◌, ◌<◌, ◌≤◌, ◌∙◌, sym, subst, ap, ℕ, set, length}
-use Rattle.tdb_base.specs.History.{Vector}
+use Rattle.std.proofs.Common.{arith, ◌+◌, ◌*◌, ◌∙◌, sym, subst, ap, set}
 use Rattle.tree_shape.proofs.Trees.{at_pair, stands_more}
-use Rattle.tree_shape.specs.Tree.{Stands}
 use Rattle.pair_rule.specs.Rest.{view}
 use Rattle.tree_store.specs.Vectors.{StandsTo}
 use Rattle.tree_store.proofs.Opens.{opened_number, opened_parts, stands_to_more}

@@ -1,4 +1,4 @@
-use Rattle.std.proofs.Common.{arith, ◌≡◌, ◌*◌, ◌<◌, ◌≤◌, ◌∙◌, sym, subst, ap, ℕ, set, length, drop, length-set}
+use Rattle.std.proofs.Common.{arith, ◌≡◌, ◌*◌, ◌∙◌, sym, subst, ap, ℕ, set, length, drop, length-set}
 use Rattle.pair_rule.specs.Rest.{view}
 use Rattle.tree_store.specs.Vectors.{StandsTo}
 use Rattle.tree_store.proofs.Inserts.{rests_filled}

@@ -1,4 +1,4 @@
-use Rattle.std.proofs.Common.{arith, ◌∙◌, ◌*◌, ◌≤◌, sym}
+use Rattle.std.proofs.Common.{arith, ◌*◌}
 use Rattle.tree_store.proofs.Census.{few_plain_names, few_bytes}
 use Rattle.tree_store.proofs.counts.TreeStore+PlainRoot+W+F+W+F.raw_bytes.Goals as goal
 

@@ -1,5 +1,4 @@
-use Rattle.std.proofs.Common.{arith, length}
-use Rattle.pair_rule.specs.Rest.{view}
+use Rattle.std.proofs.Common.{arith}
 use Rattle.pair_rule.proofs.Rests.{few_nodes}
 use Rattle.root_plain.specs.Plain.{Told}
 use Rattle.root_plain.specs.Plays.{roots_of, house_of}

@@ -1,4 +1,4 @@
-use Rattle.std.proofs.Common.{◌≡◌, ◌∙◌, sym, subst, ap, ℕ, [], ◌∷◌, false, length}
+use Rattle.std.proofs.Common.{◌≡◌, sym, subst, [], ◌∷◌, false, length}
 use Rattle.tree_shape.specs.Tree.{RootStands}
 use Rattle.tdb_base.specs.History.{Vector}
 use Rattle.packed_word.specs.Word.{pair_of}

@@ -1,4 +1,4 @@
-use Rattle.std.proofs.Common.{arith, ◌≡◌, ◌<◌, ◌∙◌, sym, subst, ap, ℕ, [], Some}
+use Rattle.std.proofs.Common.{arith, ◌≡◌, sym, subst, [], Some}
 use Rattle.tdb_base.specs.History.{Vector, name_of}
 use Rattle.packed_word.specs.Word.{pair_of}
 use Rattle.pair_rule.specs.Rest.{view}
