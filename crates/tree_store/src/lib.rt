@@ -13,3 +13,6 @@ mod unfold;
 
 pub use create::CreateError;
 pub use store::{PlainPass, PlainStore, TreeStore};
+
+#[cfg(test)]
+mod tests;
