@@ -1,10 +1,11 @@
 -- An insertion as its parts: the slots are filled, inner nodes are put, and then the root.
-use Rattle.std.proofs.Common.{◌≡◌, ℕ, ◌+◌, ◌-◌, ◌*◌, List, [], ◌∷◌, length, get_or, Bool, true, false, sym, ap, ◌∙◌, subst, arith}
+use Rattle.std.proofs.Common.{◌≡◌, ℕ, ◌+◌, ◌-◌, ◌*◌, List, [], ◌∷◌, length, get_or, Bool, Some, true, false, sym, ap, ◌∙◌, subst, arith}
 use Rattle.std.proofs.lemmas.List.{get_or-drop}
 use Rattle.atomic_table.specs.Seated.{TableId}
 use Rattle.tree_shape.specs.Tree.{Has, IsPart, slot}
-use Rattle.tdb_base.specs.History.{Vector, History, calls}
-use Rattle.tdb_base.specs.Legal.{Extends}
+use Rattle.tdb_base.specs.History.{Vector, History, name_of, calls}
+use Rattle.tdb_base.specs.Legal.{IsLegal, Extends}
+use Rattle.tdb_base.proofs.NameLemmas.{entry-named}
 use Rattle.tdb_base.specs.declared.reply.Reply.{Reply}
 use Rattle.tdb_base.specs.declared.reply.Reply.TheVariants as r
 use Rattle.pair_rule.specs.declared.view.View.{View}
@@ -87,3 +88,7 @@ full_roots_so P Q (r.New id) f fact = tt
 full_roots_so P Q (r.Seen id) f fact = tt
 full_roots_so P Q r.FullNodes f fact = tt
 full_roots_so P Q r.FullRoots f fact = f fact
+
+-- the vector of a call has the call's identifier
+pub call_named : (caller : ℕ) (fresh : Bool) (vector : Vector) (id : ℕ) (u w : View Roots) → IsLegal w.about.flags w.seen → Advanced (call caller fresh vector id ∷ []) u w → name_of w.seen vector ≡ Some id
+call_named caller fresh vector id u w legal k = entry-named w.about.flags w.seen k.log [] (call caller fresh vector id) legal k.seen

@@ -1,134 +1,192 @@
-// Vectors of three slots. Their trees have one inner position, above the last two slots, so the counts are worked out by hand.
-ghost use Rattle.std.specs.Prelude.{◌≡◌, ◌^◌, ◌<◌, IfOk};
+// Stores of small sizes. The identifiers are buckets of hashes that were computed by hand; which lines are full is a matter of counting nodes and roots.
+ghost use Rattle.std.specs.Prelude.{◌≡◌, Some};
+ghost use Rattle.packed_word.specs.Word.{IsLayout};
+ghost use Rattle.tdb_base.specs.History.{Vector, name_of};
+ghost use Rattle.pair_rule.specs.Rest.{view};
 ghost use Rattle.root_plain.specs.Plays.{Rests};
+ghost use Rattle.tree_store.specs.Store.{IfNamed};
 
-use crate::{CreateError, PlainPass, PlainStore};
+use crate::{CreateError, PlainPass, PlainStore, TreeStore};
 use pair_rule::Sizes;
+use root_plain::PlainRoot;
 use std::alloc::Global;
 use std::process::Abort;
 use std::test::Fail;
-use tdb_base::{Kept, Ledger, Reply, Steps};
+use tdb_base::{Kept, Ledger, Reply, Silent, Steps};
 use tree_shape::Shape;
 
-// A store of vectors of three slots, with so many buckets for nodes and roots, and its pass.
-fn store(
+// A store of vectors of `slots` slots, and its pass.
+fn store<const W: u32, const F: u32>(
     rt: &impl Abort,
     alloc: Global,
+    slots: usize,
     nodes: u32,
-    roots: u32,
-    probe: u64,
-) -> Result<(PlainStore<16, 8>, PlainPass<16, 8>), CreateError>
-    ensures slots { IfOk result (λ made. made.0.nodes.table.about.slots ≡ 3) }
-    ensures rest { IfOk result (λ made. Rests made.0.nodes.table.table.shared.table_id made.0.nodes.table.about made.1) }
+) -> (PlainStore<W, F>, PlainPass<W, F>)
+    requires layout { IsLayout W F }
+    ensures slots { result.0.nodes.table.about.slots ≡ slots }
+    ensures rest { Rests result.0.nodes.table.table.shared.table_id result.0.nodes.table.about result.1 }
 {
+    let sizes = Sizes {
+        nodes,
+        roots: 3,
+        region: 0,
+        probe: 4_194_304,
+    };
+    let Ok(shape) = Shape::new(slots) else {
+        panic!(rt; "no shape")
+    };
+    let Ok(made) = TreeStore::<PlainRoot<W, F>, W, F>::create(alloc, shape, &sizes) else {
+        panic!(rt; "no store")
+    };
+    made
+}
+
+// The answer of the vector, which the store can keep.
+fn put<L: Ledger, const W: u32, const F: u32>(
+    rt: &impl Abort,
+    store: &PlainStore<W, F>,
+    pass: &mut PlainPass<W, F>,
+    vector: &[u32],
+    steps: &mut Steps<L>,
+) -> Reply
+    requires rest { Rests store.now.nodes.table.table.shared.table_id store.now.nodes.table.about pass.old }
+    ensures rest { Rests store.now.nodes.table.table.shared.table_id store.now.nodes.table.about pass.new }
+    ensures named { IfNamed result (λ fresh id. (v : Vector) × (name_of (view pass.new).seen v ≡ Some id)) }
+{
+    assert!(rt; store.fits(vector));
+    store.insert_from(pass, vector, steps)
+}
+
+// The number of the size that is refused, or 0.
+fn refused(rt: &impl Abort, alloc: Global, nodes: u32, roots: u32, probe: u64) -> u32 {
     let sizes = Sizes {
         nodes,
         roots,
         region: 0,
         probe,
     };
-    let Ok(shape) = Shape::new(3) else {
+    let Ok(shape) = Shape::new(2) else {
         panic!(rt; "no shape")
     };
-    PlainStore::<16, 8>::create(alloc, shape, &sizes)
-}
-
-// The answer for the vector of these slots.
-fn answer<L: Ledger>(
-    store: &PlainStore<16, 8>,
-    pass: &mut PlainPass<16, 8>,
-    first: u32,
-    last: u32,
-    steps: &mut Steps<L>,
-) -> Reply
-    requires slots { store.now.nodes.table.about.slots ≡ 3 }
-    requires rest { Rests store.now.nodes.table.table.shared.table_id store.now.nodes.table.about pass.old }
-    requires below { (first < 2 ^ 16) × (last < 2 ^ 16) }
-    ensures { Rests store.now.nodes.table.table.shared.table_id store.now.nodes.table.about pass.new }
-{
-    store.insert_from(pass, &[first, 0, last], steps)
-}
-
-#[test]
-fn puts_what_changed(rt: HostRuntime) -> Result<(), Fail> {
-    let Ok((store, mut pass)) = store(&rt, rt.alloc(), 6, 6, 4_194_304) else {
-        panic!(rt; "no store")
-    };
-    let mut steps = Steps::new(Kept { shown: 0 });
-    assert!(rt; answer(&store, &mut pass, 5, 0, &mut steps).is_new() && steps.shown() == 2);
-    assert!(rt; answer(&store, &mut pass, 6, 0, &mut steps).is_new() && steps.shown() == 3);
-    let third = answer(&store, &mut pass, 6, 1, &mut steps);
-    assert!(rt; third.is_new() && steps.shown() == 5);
-    let again = answer(&store, &mut pass, 6, 1, &mut steps);
-    assert!(rt; !again.is_new() && again.id() == third.id() && steps.shown() == 6);
-    assert!(rt; store.nodes_made(&pass) == 2 && store.names_made(&pass) == 3);
-    assert!(rt; store.stored_bytes(&pass) == 40 && store.raw_bytes(&pass) == 36);
-    let mut other = store.split(rt.alloc(), &mut pass)?;
-    let other_again = answer(&store, &mut other, 6, 1, &mut steps);
-    assert!(rt; other_again == again && steps.shown() == 8);
-    let Some(id) = third.id() else {
-        panic!(rt; "full")
-    };
-    let mut out = [9; 3];
-    assert!(rt; store.lookup(&mut other, id, &mut out) && out == [6, 0, 1]);
-    assert!(rt; !store.lookup(&mut other, 64, &mut out) && out == [6, 0, 1]);
-    Ok(())
+    match TreeStore::<PlainRoot<16, 8>, 16, 8>::create(alloc, shape, &sizes) {
+        Ok(_) => 0,
+        Err(CreateError::Sizes(number)) => number,
+        Err(CreateError::NoMemory) => 9,
+    }
 }
 
 #[test]
 fn refuses_sizes(rt: HostRuntime) -> Result<(), Fail> {
-    let alloc = rt.alloc();
-    assert_eq!(rt;
-        store(&rt, alloc, 2, 2, 0).err(),
-        Some(CreateError::Sizes(1))
-    );
-    assert_eq!(rt;
-        store(&rt, alloc, 17, 3, 1).err(),
-        Some(CreateError::Sizes(1))
-    );
-    assert_eq!(rt;
-        store(&rt, alloc, 16, 25, 0).err(),
-        Some(CreateError::Sizes(2))
-    );
-    assert_eq!(rt;
-        store(&rt, alloc, 3, 24, 4_194_305).err(),
-        Some(CreateError::Sizes(4))
-    );
-    assert!(rt; store(&rt, alloc, 3, 3, 1).is_ok());
+    assert_eq!(rt; refused(&rt, rt.alloc(), 2, 3, 1), 1);
+    assert_eq!(rt; refused(&rt, rt.alloc(), 17, 3, 1), 1);
+    assert_eq!(rt; refused(&rt, rt.alloc(), 3, 25, 1), 2);
+    assert_eq!(rt; refused(&rt, rt.alloc(), 3, 3, 0), 4);
+    assert_eq!(rt; refused(&rt, rt.alloc(), 3, 3, 1), 0);
     Ok(())
 }
 
 #[test]
-fn fits_a_vector(rt: HostRuntime) -> Result<(), Fail> {
-    let Ok((store, _)) = store(&rt, rt.alloc(), 3, 3, 1) else {
-        panic!(rt; "no store")
+fn passes_tell_one_another(rt: HostRuntime) -> Result<(), Fail> {
+    let (store, mut first) = store::<16, 8>(&rt, rt.alloc(), 2, 3);
+    let mut second = store.split(rt.alloc(), &mut first)?;
+    let mut steps = Steps::new(Silent);
+    assert_eq!(rt;
+        put(&rt, &store, &mut first, &[3, 5], &mut steps),
+        Reply::New(0)
+    );
+    store.meet(&mut first, &mut second);
+    let Reply::Seen(id) = put(&rt, &store, &mut second, &[3, 5], &mut steps) else {
+        panic!(rt; "not seen")
     };
-    assert!(rt; store.fits(&[0, 65_535, 0]) && !store.fits(&[0, 65_536, 0]));
-    assert!(rt; !store.fits(&[0, 0]) && !store.fits(&[0, 0, 0, 0]));
+    assert!(rt; id == 0);
+    let mut out = [0, 0];
+    store.read(&mut second, id, &mut out);
+    assert!(rt; out == [3, 5]);
+    store.join(&mut first, second);
+    assert!(rt; store.names_made(&first) == 1);
     Ok(())
 }
 
 #[test]
-fn fills_up(rt: HostRuntime) -> Result<(), Fail> {
-    let Ok((store, mut pass)) = store(&rt, rt.alloc(), 3, 3, 4_194_304) else {
-        panic!(rt; "no store")
-    };
+fn keeps_five_zeros_as_one_node(rt: HostRuntime) -> Result<(), Fail> {
+    let (store, mut pass) = store::<28, 7>(&rt, rt.alloc(), 5, 3);
+    assert!(rt;
+        store.fits(&[0, 0, 0, 0, 0])
+            && !store.fits(&[0, 0, 0, 0])
+            && !store.fits(&[0, 0, 0, 0, 1 << 28])
+    );
+    assert_eq!(rt;
+        store.insert(&mut pass, &[0, 0, 0, 0, 0], &mut Steps::new(Silent)),
+        Reply::New(0)
+    );
+    assert!(rt;
+        store.nodes_made(&pass) == 1
+            && store.stored_bytes(&pass) == 16
+            && store.raw_bytes(&pass) == 20
+    );
+    let mut out = [7, 7, 7, 7, 7];
+    assert!(rt; !store.lookup(&mut pass, 1, &mut out) && out == [7, 7, 7, 7, 7]);
+    assert!(rt; store.lookup(&mut pass, 0, &mut out) && out == [0, 0, 0, 0, 0]);
+    Ok(())
+}
+
+#[test]
+fn counts_changed_positions(rt: HostRuntime) -> Result<(), Fail> {
+    let (store, mut pass) = store::<16, 8>(&rt, rt.alloc(), 3, 3);
     let mut steps = Steps::new(Kept { shown: 0 });
-    for last in 0..8 {
-        assert!(rt; answer(&store, &mut pass, 0, last, &mut steps).is_new());
-    }
-    assert!(rt; steps.shown() == 16);
+    let first = put(&rt, &store, &mut pass, &[5, 0, 0], &mut steps);
+    assert!(rt; first.is_new() && steps.shown() == 2);
+    let second = put(&rt, &store, &mut pass, &[6, 0, 0], &mut steps);
+    assert!(rt; second.is_new() && steps.shown() == 3);
+    let third = put(&rt, &store, &mut pass, &[6, 0, 1], &mut steps);
+    assert!(rt; third.is_new() && steps.shown() == 5);
+    let again = put(&rt, &store, &mut pass, &[6, 0, 1], &mut steps);
+    assert!(rt; !again.is_new() && again.id() == third.id() && steps.shown() == 6);
+    let mut other = store.split(rt.alloc(), &mut pass)?;
+    assert!(rt; put(&rt, &store, &mut other, &[6, 0, 1], &mut steps) == again);
+    assert!(rt; steps.shown() == 8 && store.nodes_made(&pass) == 2);
+    Ok(())
+}
+
+#[test]
+fn answers_full_nodes(rt: HostRuntime) -> Result<(), Fail> {
+    let (store, mut pass) = store::<28, 7>(&rt, rt.alloc(), 4, 3);
+    let mut steps = Steps::new(Silent);
+    let first = put(&rt, &store, &mut pass, &[0, 1, 2, 3], &mut steps);
+    assert!(rt; first.is_new());
+    assert!(rt; put(&rt, &store, &mut pass, &[4, 5, 6, 7], &mut steps).is_new());
+    assert!(rt; put(&rt, &store, &mut pass, &[8, 9, 10, 11], &mut steps).is_new());
+    assert!(rt; put(&rt, &store, &mut pass, &[12, 13, 14, 15], &mut steps).is_new());
     assert_eq!(rt;
-        answer(&store, &mut pass, 0, 8, &mut steps),
+        put(&rt, &store, &mut pass, &[16, 17, 18, 19], &mut steps),
         Reply::FullNodes
     );
-    assert!(rt; steps.shown() == 17);
+    let again = put(&rt, &store, &mut pass, &[0, 1, 2, 3], &mut steps);
+    assert!(rt; !again.is_new() && again.id() == first.id());
     assert_eq!(rt;
-        answer(&store, &mut pass, 1, 7, &mut steps),
+        put(&rt, &store, &mut pass, &[16, 17, 18, 19], &mut steps),
+        Reply::FullNodes
+    );
+    assert!(rt; put(&rt, &store, &mut pass, &[0, 1, 6, 7], &mut steps).is_new());
+    Ok(())
+}
+
+#[test]
+fn answers_full_roots(rt: HostRuntime) -> Result<(), Fail> {
+    let (store, mut pass) = store::<28, 7>(&rt, rt.alloc(), 2, 3);
+    let mut steps = Steps::new(Kept { shown: 0 });
+    assert_eq!(rt;
+        put(&rt, &store, &mut pass, &[0, 0], &mut steps),
+        Reply::New(0)
+    );
+    for right in 1..8 {
+        assert!(rt; put(&rt, &store, &mut pass, &[0, right], &mut steps).is_new());
+    }
+    assert!(rt; steps.shown() == 8);
+    assert_eq!(rt;
+        put(&rt, &store, &mut pass, &[0, 8], &mut steps),
         Reply::FullRoots
     );
-    assert!(rt; steps.shown() == 18);
-    let seen = answer(&store, &mut pass, 0, 7, &mut steps);
-    assert!(rt; seen.id().is_some() && !seen.is_new() && steps.shown() == 19);
+    assert!(rt; steps.shown() == 9);
     Ok(())
 }
