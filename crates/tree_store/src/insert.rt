@@ -1,6 +1,7 @@
 //! A vector is inserted into a plain store: its slots, its inner nodes, and then its root.
 ghost use Rattle.std.specs.Prelude.{◌≡◌, ◌≢◌, ℕ, ◌+◌, ◌-◌, ◌*◌, ◌<◌, ◌≤◌, true, Some, [], ◌∷◌, drop, length, option_map};
 ghost use Rattle.tdb_base.specs.Fakes.{counted};
+ghost use Rattle.tdb_base.specs.History.{name_of};
 ghost use Rattle.pair_rule.specs.Rest.{view, last_vector};
 ghost use Rattle.root_plain.specs.Plays.{Rests, CaughtUp, call};
 ghost use Rattle.root_plain.specs.Probe.{SameBuffers};
@@ -128,6 +129,7 @@ impl<const W: u32, const F: u32> TreeStore<PlainRoot<W, F>, W, F> {
         requires vector { IsVector self.now.nodes.table.about vector.now }
         ensures rest { Rests self.now.nodes.table.table.shared.table_id self.now.nodes.table.about pass.new }
         ensures call { IfNamed result (λ fresh id. Advanced (call (view pass.old).number fresh vector.now id ∷ []) (view pass.old) (view pass.new)) }
+        ensures name { IfNamed result (λ fresh id. name_of (view pass.new).seen vector.now ≡ Some id) }
         ensures root { IfNamed result (λ fresh id. HasRoot self.now.nodes.table.about (view pass.new) vector.now id) }
         ensures last { IfNamed result (λ fresh id. last_vector pass.new ≡ Some vector.now) }
         ensures nodes { IfNamed result (λ fresh id. Gained self.now.nodes.table.about vector.now (self.now.nodes.table.about.slots - 2) (view pass.old) (view pass.new)) }
@@ -158,6 +160,7 @@ impl<const W: u32, const F: u32> TreeStore<PlainRoot<W, F>, W, F> {
         requires vector { IsVector self.now.nodes.table.about vector.now }
         ensures rest { Rests self.now.nodes.table.table.shared.table_id self.now.nodes.table.about pass.new }
         ensures call { IfNamed result (λ fresh id. Advanced (call (view pass.old).number fresh vector.now id ∷ []) (view pass.old) (view pass.new)) }
+        ensures name { IfNamed result (λ fresh id. name_of (view pass.new).seen vector.now ≡ Some id) }
         ensures root { IfNamed result (λ fresh id. HasRoot self.now.nodes.table.about (view pass.new) vector.now id) }
         ensures last { IfNamed result (λ fresh id. last_vector pass.new ≡ Some vector.now) }
         ensures nodes { IfNamed result (λ fresh id. Gained self.now.nodes.table.about vector.now (puts_after self.now.nodes.table.about (last_vector pass.old) vector.now) (view pass.old) (view pass.new)) }
