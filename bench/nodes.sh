@@ -1,13 +1,10 @@
 #!/usr/bin/env bash
 # bench/nodes.sh: find or put of nodes beside the same loop over the yardstick's table, and what it costs to make a large table, in one run, as ratios. The two
 # programs take turns, and each keeps its best. Needs ../shared/yardstick and g++.
-set -eu
-cd "$(dirname "${BASH_SOURCE[0]}")/.."
-out=${TMPDIR:-/tmp}/treedb-yardstick
+source "$(dirname "${BASH_SOURCE[0]}")/setup.sh"
 rounds=${ROUNDS:-9}
 
-mkdir -p "$out"
-g++ -O3 -std=c++17 -march=x86-64-v3 -pthread -I../shared/yardstick bench/nodes.cpp -o "$out/nodes"
+g++ -O3 -std=c++17 -march=x86-64-v3 -pthread -I"$yard" bench/nodes.cpp -o "$out/nodes"
 (cd crates/measure_nodes && rt run > /dev/null 2>&1)
 
 log=$(mktemp)

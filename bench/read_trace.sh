@@ -2,13 +2,9 @@
 # bench/read_trace.sh: `read_trace` on 64 MB of small numbers beside the yardstick's loops and Rust's csv crate, in one run, as ratios.
 # The tries of all programs take turns, and each keeps its best, since a single time on a busy machine says little. Needs ../shared/yardstick, g++ and,
 # for Rust's csv crate, cargo with Debian's librust-csv-dev and librust-dashmap-dev.
-set -eu
-cd "$(dirname "${BASH_SOURCE[0]}")/.."
-yard=../shared/yardstick
-out=${TMPDIR:-/tmp}/treedb-yardstick
+source "$(dirname "${BASH_SOURCE[0]}")/setup.sh"
 rounds=${ROUNDS:-3}
 
-mkdir -p "$out"
 make -s -C "$yard" OUT="$out" "$out/tracegen" "$out/limits"
 make -s -C "$yard" OUT="$out" "$out/rustcsv" 2> /dev/null || echo "without Rust's csv crate: it was not built" >&2
 (cd crates/measure && rt run -- read-trace 1 < stdin > /dev/null 2>&1)

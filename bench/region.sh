@@ -1,13 +1,9 @@
 #!/usr/bin/env bash
 # bench/region.sh: a region's calls beside the yardstick's region on the same drawn keys, in one run, as ratios. The two programs take turns, and each keeps its
 # best, since a single time on a busy machine says little. Needs ../shared/yardstick and g++.
-set -eu
-cd "$(dirname "${BASH_SOURCE[0]}")/.."
-yard=../shared/yardstick
-out=${TMPDIR:-/tmp}/treedb-yardstick
+source "$(dirname "${BASH_SOURCE[0]}")/setup.sh"
 rounds=${ROUNDS:-3}
 
-mkdir -p "$out"
 g++ -O3 -march=x86-64-v3 -std=c++17 -I"$yard" bench/region.cpp -o "$out/region"
 (cd crates/measure_region && rt run > /dev/null 2>&1)
 

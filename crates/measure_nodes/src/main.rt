@@ -129,12 +129,12 @@ fn sizes_of(nodes: u32) -> Sizes
     }
 }
 
-// Microseconds for the pairs put by the threads together, and for all of them looked up by each.
+// Microseconds for the pairs put by the threads together, and for all of them looked up by each; and for how many of these the table was full.
 fn time_nodes<H: Threads + Sync>(
     rt: &H,
     clock: &HostRuntime,
     threads: u64,
-) -> Result<(u128, u128), NoMemory>
+) -> Result<(u128, u128, u64), NoMemory>
     requires { (1 ≤ threads) × (threads ≤ 64) }
 {
     let (table, mut pass) = Table::create(clock.alloc(), &sizes_of(20), 16)?;
@@ -142,7 +142,11 @@ fn time_nodes<H: Threads + Sync>(
     let mut callers = split_callers(clock.alloc(), &nodes, &mut pass, threads)?;
     let put = timed(rt, clock, &nodes, callers.as_mut_slice(), false);
     let found = timed(rt, clock, &nodes, callers.as_mut_slice(), true);
-    Ok((put, found))
+    let mut full = 0u64;
+    for caller in &callers {
+        full = full.saturating_add(caller.full);
+    }
+    Ok((put, found, full))
 }
 
 // Microseconds for one round of all callers.
@@ -172,10 +176,11 @@ fn main(rt: HostRuntime) -> io::Result<ExitCode> {
     let threads = number_at(&rt, 2)?.min(64).max(1);
     time_create(&rt, nodes)?;
     match time_nodes(&rt, &rt, threads) {
-        Ok((put, found)) => eprintln!(rt;
+        Ok((put, found, 0)) => eprintln!(rt;
             "{} pairs by {} threads: put {} us, found by each {} us",
             PAIRS, threads, put, found
         )?,
+        Ok((_, _, full)) => eprintln!(rt; "measure_nodes: full for {} pairs", full)?,
         Err(NoMemory) => eprintln!(rt; "measure_nodes: no memory")?,
     }
     Ok(ExitCode::from(0))
