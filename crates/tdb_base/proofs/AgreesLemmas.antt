@@ -104,12 +104,12 @@ pub at-line : (c : ℕ) (trace : List Vector) (replies : List Reply) (i : ℕ) (
 at-line c trace replies i v reply a b = rw (a, b) refl
 
 -- the entries that the replies to the first lines of a worker's tell of
-abbrev pub told : ℕ → List Vector → List Reply → ℕ → ℕ → ℕ → ℕ → List Entry
-told c trace replies workers block worker lines = filter_map (entry_at c trace replies) (mine lines workers block worker)
+abbrev pub worker_told : ℕ → List Vector → List Reply → ℕ → ℕ → ℕ → ℕ → List Entry
+worker_told c trace replies workers block worker lines = filter_map (entry_at c trace replies) (mine lines workers block worker)
 
 told-line : (c : ℕ) (trace : List Vector) (replies : List Reply) (workers block worker i : ℕ)
-    → told c trace replies workers block worker (i + 1)
-    ≡ told c trace replies workers block worker i ++ filter_map (entry_at c trace replies) (if i / block % workers == worker then i ∷ [] else [])
+    → worker_told c trace replies workers block worker (i + 1)
+    ≡ worker_told c trace replies workers block worker i ++ filter_map (entry_at c trace replies) (if i / block % workers == worker then i ∷ [] else [])
 told-line c trace replies workers block worker i =
     ap (filter_map (entry_at c trace replies)) (mine-more i workers block worker)
     ∙ filter_map-append (entry_at c trace replies) (mine i workers block worker) (if i / block % workers == worker then i ∷ [] else [])
@@ -122,19 +122,19 @@ both false b e = cc e
 -- one line more, which tells of an entry or not
 pub told-more : (c : ℕ) (trace : List Vector) (replies : List Reply) (workers block worker i : ℕ) (v : Vector) (reply : Reply) (e : Entry)
     → slice_get trace i ≡ Some v → slice_get replies i ≡ Some reply → true ≡ ((i / block % workers == worker) && not (is_full reply)) → entry_of c v reply ≡ Some e
-    → told c trace replies workers block worker (i + 1) ≡ told c trace replies workers block worker i ++ e ∷ []
+    → worker_told c trace replies workers block worker (i + 1) ≡ worker_told c trace replies workers block worker i ++ e ∷ []
 told-more c trace replies workers block worker i v reply e a b tells is =
     let own = (both (i / block % workers == worker) (not (is_full reply)) tells).0 in
     let here : entry_at c trace replies i ≡ Some e = at-line c trace replies i v reply a b ∙ is in
-    told-line c trace replies workers block worker i ∙ ap (λ (t : List Entry). told c trace replies workers block worker i ++ t) (rw (own, here) refl)
+    told-line c trace replies workers block worker i ∙ ap (λ (t : List Entry). worker_told c trace replies workers block worker i ++ t) (rw (own, here) refl)
 
 pub told-same : (c : ℕ) (trace : List Vector) (replies : List Reply) (workers block worker i : ℕ) (v : Vector) (reply : Reply)
     → slice_get trace i ≡ Some v → slice_get replies i ≡ Some reply → false ≡ ((i / block % workers == worker) && not (is_full reply))
-    → told c trace replies workers block worker (i + 1) ≡ told c trace replies workers block worker i
+    → worker_told c trace replies workers block worker (i + 1) ≡ worker_told c trace replies workers block worker i
 told-same c trace replies workers block worker i v reply a b silent =
     told-line c trace replies workers block worker i
-    ∙ ap (λ (t : List Entry). told c trace replies workers block worker i ++ t) (by (i / block % workers == worker) (is_full reply) refl silent)
-    ∙ append-nil (told c trace replies workers block worker i)
+    ∙ ap (λ (t : List Entry). worker_told c trace replies workers block worker i ++ t) (by (i / block % workers == worker) (is_full reply) refl silent)
+    ∙ append-nil (worker_told c trace replies workers block worker i)
   where
     by : (own full : Bool) → is_full reply ≡ full → false ≡ (own && not full) → filter_map (entry_at c trace replies) (if own then i ∷ [] else []) ≡ []
     by false full f e = refl
@@ -163,18 +163,18 @@ and-iff false g P Q R here next whole = (λ t. cc t, λ r. here.1 (whole.1 r).0)
 -- a walk over the lines that compares the entries with the caller's calls: one line more, which tells of an entry
 pub walk-more : (c : ℕ) (trace : List Vector) (replies : List Reply) (workers block worker i : ℕ) (v : Vector) (reply : Reply) (mine_all : List Entry) (n : ℕ) (fine one : Bool)
     → slice_get trace i ≡ Some v → slice_get replies i ≡ Some reply → true ≡ ((i / block % workers == worker) && not (is_full reply))
-    → (IsTrue fine ↔ (take n mine_all ≡ told c trace replies workers block worker i)) → n ≡ length (told c trace replies workers block worker i)
+    → (IsTrue fine ↔ (take n mine_all ≡ worker_told c trace replies workers block worker i)) → n ≡ length (worker_told c trace replies workers block worker i)
     → (IsTrue one ↔ (slice_get mine_all n ≡ entry_of c v reply))
-    → (IsTrue (fine && one) ↔ (take (n + 1) mine_all ≡ told c trace replies workers block worker (i + 1))) × (n + 1 ≡ length (told c trace replies workers block worker (i + 1)))
+    → (IsTrue (fine && one) ↔ (take (n + 1) mine_all ≡ worker_told c trace replies workers block worker (i + 1))) × (n + 1 ≡ length (worker_told c trace replies workers block worker (i + 1)))
 walk-more c trace replies workers block worker i v reply mine_all n fine one a b tells same count next =
     let heard : is_full reply ≡ false = not-full (is_full reply) (both (i / block % workers == worker) (not (is_full reply)) tells).1 in
     let entry = told-entry c v reply heard in
     let longer = told-more c trace replies workers block worker i v reply entry.0 a b tells entry.1 in
-    let begins = begins-more mine_all (told c trace replies workers block worker i) n entry.0 count in (
-      and-iff fine one (take n mine_all ≡ told c trace replies workers block worker i) (slice_get mine_all n ≡ entry_of c v reply)
-          (take (n + 1) mine_all ≡ told c trace replies workers block worker (i + 1)) same next
+    let begins = begins-more mine_all (worker_told c trace replies workers block worker i) n entry.0 count in (
+      and-iff fine one (take n mine_all ≡ worker_told c trace replies workers block worker i) (slice_get mine_all n ≡ entry_of c v reply)
+          (take (n + 1) mine_all ≡ worker_told c trace replies workers block worker (i + 1)) same next
           (λ h. begins.0 (h.0, h.1 ∙ entry.1) ∙ sym longer, λ h. let there = begins.1 (h ∙ longer) in (there.0, there.1 ∙ sym entry.1)),
-      (let one_more = ap length longer in omega (arith, one_more, count, length-append (told c trace replies workers block worker i) (entry.0 ∷ []))),
+      (let one_more = ap length longer in omega (arith, one_more, count, length-append (worker_told c trace replies workers block worker i) (entry.0 ∷ []))),
     )
   where
     not-full : (full : Bool) → not full ≡ true → full ≡ false

@@ -5,3 +5,4 @@ pub mod DistinctLemmas
 pub mod TallyLemmas
 pub mod HeadlineLemmas
 pub mod AgreesLemmas
+pub mod PickLemmas

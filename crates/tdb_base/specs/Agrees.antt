@@ -1,6 +1,6 @@
 -- When the replies to a trace's lines form one history.
 use Rattle.std.specs.Prelude.{◌≡◌, ◌++◌, ℕ, true, false, List, [], Option, Some, None, Contains, length, slice_get}
-use Rattle.std.specs.List.{filter_map}
+use Rattle.std.specs.List.{filter_map, zip}
 use Rattle.tdb_base.specs.Replies.{is_full}
 use Rattle.tdb_base.specs.History.{Vector, Put, Entry, History, name_of, calls}
 use Rattle.tdb_base.specs.Legal.{IsLegal, Extends}
@@ -23,6 +23,10 @@ entry_of_both caller _ _ = None
 -- the entry that the reply to the line with this number tells of
 abbrev pub entry_at : ℕ → List Vector → List Reply → ℕ → Option Entry
 entry_at caller trace replies i = entry_of_both caller (slice_get trace i) (slice_get replies i)
+
+-- the entries that the replies to some vectors tell of, by this caller
+abbrev pub told : ℕ → List Vector → List Reply → History
+told caller vectors replies = filter_map (λ line. entry_of caller line.0 line.1) (zip vectors replies)
 
 -- the replies to the lines of a trace, dealt out in blocks to workers who are these callers, form one history that goes on from an earlier one
 pub record Agrees (flag_count : ℕ) (trace : List Vector) (replies : List Reply) (workers block : ℕ) (earlier later : History) (callers : List ℕ) : Type 0 where

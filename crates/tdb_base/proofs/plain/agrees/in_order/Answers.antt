@@ -6,7 +6,7 @@ use Rattle.std.specs.Global.{Global}
 use Rattle.tdb_base.specs.Agrees.{entry_of}
 use Rattle.tdb_base.specs.History as h
 use Rattle.tdb_base.specs.declared.reply.Reply.TheVariants as r
-use Rattle.tdb_base.proofs.AgreesLemmas.{begins-all, nothing-there, told, told-same, walk-more}
+use Rattle.tdb_base.proofs.AgreesLemmas.{begins-all, nothing-there, told-same, walk-more, worker_told}
 use Rattle.tdb_base.proofs.DistinctLemmas.{at-map}
 use Rattle.tdb_base.proofs.ListLemmas.{at-within}
 use Rattle.tdb_base.proofs.plain.agrees.in_order.Goals as goal
@@ -17,7 +17,7 @@ loop-i-preserved c =
     let items = λ (v : Vec ℕ Global). v.items in
     let lines = map items c.args.trace.now in
     let mine_all = h.calls c.args.later.now c.args.caller in
-    let entries = told c.args.caller lines c.args.replies.now c.args.workers c.args.block c.args.worker in
+    let entries = worker_told c.args.caller lines c.args.replies.now c.args.workers c.args.block c.args.worker in
     let reply = get_or c.args.replies.now c.loop-i.i (r.New 0) in
     let answered : slice_get c.args.replies.now c.loop-i.i ≡ Some reply = slice_get-get_or c.args.replies.now c.loop-i.i (r.New 0) (omega arith) in
     elim c.if-is_told.branch [
@@ -54,7 +54,7 @@ returns-then-fine c =
     let lines = map items c.args.trace.now in
     let mine_all = h.calls c.args.later.now c.args.caller in
     let end : c.loop-i.i ≡ length lines = omega (arith, length-map c.args.trace.now items) in
-    let entries = told c.args.caller lines c.args.replies.now c.args.workers c.args.block c.args.worker in
+    let entries = worker_told c.args.caller lines c.args.replies.now c.args.workers c.args.block c.args.worker in
     let here : take c.loop-i.number mine_all ≡ entries (length lines) = c.loop-i.invariant.same.0 c.if-fine.true ∙ ap entries end in
     let count : c.loop-i.number ≡ length (entries (length lines)) = c.loop-i.invariant.count ∙ ap (λ (i : ℕ). length (entries i)) end in
     let all = begins-all mine_all (entries (length lines)) c.loop-i.number count in
