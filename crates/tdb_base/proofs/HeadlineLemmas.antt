@@ -4,7 +4,7 @@ use Rattle.std.proofs.lemmas.List.Sums.{sum_by-cons}
 use Rattle.std.proofs.lemmas.Option.{slice_get_within}
 use Rattle.std.specs.Prelude.{◌&&◌, ◌||◌, ◌==◌, map, slice_get, count_by, sum_by, option_and_then}
 use Rattle.std.specs.List.{list_any, range_with_len, zip}
-use Rattle.tdb_base.specs.Agrees.{Agrees, entry_at, entry_of}
+use Rattle.tdb_base.specs.Agrees.{Agrees, AgreesAmongOthers, entry_at, entry_of}
 use Rattle.tdb_base.specs.Headline.{CountsDistinct, CountsNames, DifferentLinesDifferentIds, EachNewOnce, EqualLinesEqualIds, id_at}
 use Rattle.tdb_base.specs.History.{Vector, Put, Entry, History, calls, name_of, same}
 use Rattle.tdb_base.specs.Legal.{PutsOnly}
@@ -33,7 +33,7 @@ tells caller v r.FullRoots id e = cc e
 
 -- the vector of a line that was answered an identifier has it as its name
 pub line-named : (count : ℕ) (trace : List Vector) (replies : List Reply) (workers block : ℕ) (earlier h : History) (callers : List ℕ)
-    → Agrees count trace replies workers block earlier h callers → 0 < workers
+    → AgreesAmongOthers count trace replies workers block earlier h callers → 0 < workers
     → (i : ℕ) (v : Vector) (reply : Reply) (id : ℕ) → slice_get trace i ≡ Some v → slice_get replies i ≡ Some reply → id_of reply ≡ Some id → name_of h v ≡ Some id
 line-named count trace replies workers block earlier h callers agrees some i v reply id at reply-at given =
     let worker = i / block % workers in
@@ -61,7 +61,7 @@ replied replies i a e = by (slice_get replies i) refl e
     by (Some reply) t e = (reply, t, e)
 
 pub equal-lines : (count : ℕ) (trace : List Vector) (replies : List Reply) (workers block : ℕ) (earlier h : History) (callers : List ℕ)
-    → Agrees count trace replies workers block earlier h callers → 0 < workers → EqualLinesEqualIds trace replies
+    → AgreesAmongOthers count trace replies workers block earlier h callers → 0 < workers → EqualLinesEqualIds trace replies
 equal-lines count trace replies workers block earlier h callers agrees some i k v a b at-i at-k id-i id-k =
     let first = replied replies i a id-i in
     let second = replied replies k b id-k in
@@ -70,7 +70,7 @@ equal-lines count trace replies workers block earlier h callers agrees some i k 
     cc (name, other)
 
 pub different-lines : (count : ℕ) (trace : List Vector) (replies : List Reply) (workers block : ℕ) (earlier h : History) (callers : List ℕ)
-    → Agrees count trace replies workers block earlier h callers → 0 < workers → DifferentLinesDifferentIds trace replies
+    → AgreesAmongOthers count trace replies workers block earlier h callers → 0 < workers → DifferentLinesDifferentIds trace replies
 different-lines count trace replies workers block earlier h callers agrees some i k v w a at-i at-k id-i id-k =
     let first = replied replies i a id-i in
     let second = replied replies k a id-k in
@@ -102,10 +102,10 @@ new-weight v r.FullRoots = refl
 pub counts-names : (count : ℕ) (trace : List Vector) (replies : List Reply) (workers block : ℕ) (h : History) (callers : List ℕ)
     → Agrees count trace replies workers block [] h callers → 0 < workers → CountsNames replies h
 counts-names count trace replies workers block h callers agrees some =
-    sym (count-replies is_new trace replies agrees.one_each)
+    sym (count-replies is_new trace replies agrees.among.one_each)
     ∙ sym (sum-same (line_weight (λ v fresh. cond fresh 1 0)) (λ (line : Vector × Reply). cond (is_new line.1) 1 0) (zip trace replies) (λ line at. new-weight line.0 line.1))
     ∙ sym (tally count trace replies workers block h callers (λ v fresh. cond fresh 1 0) agrees some)
-    ∙ count-named count h agrees.legal
+    ∙ count-named count h agrees.among.legal
 
 this-weight : (u v : Vector) (reply : Reply) → line_weight (λ v fresh. cond (fresh && same v u) 1 0) (v, reply) ≡ cond (is_new reply && same v u) 1 0
 this-weight u v (r.New id) = refl
@@ -137,14 +137,14 @@ new-once : (count : ℕ) (trace : List Vector) (replies : List Reply) (workers b
     → Agrees count trace replies workers block [] h callers → 0 < workers → list_any is_full replies ≡ false
     → (u : Vector) → At trace u → sum_by (λ line. cond (is_new line.1 && same line.0 u) 1 0) (zip trace replies) ≡ 1
 new-once count trace replies workers block h callers agrees some none u at =
-    let within : at.0 < length replies = rw agrees.one_each (slice_get_within trace at.0 u at.1) in
+    let within : at.0 < length replies = rw agrees.among.one_each (slice_get_within trace at.0 u at.1) in
     let reply = at-within replies at.0 within in
     let given = not-full reply.0 (none-full replies at.0 reply.0 none reply.1) in
-    let name = line-named count trace replies workers block [] h callers agrees some at.0 u reply.0 given.0 at.1 reply.1 given.1 in
+    let name = line-named count trace replies workers block [] h callers agrees.among some at.0 u reply.0 given.0 at.1 reply.1 given.1 in
     sym (sum-same (line_weight (λ v fresh. cond (fresh && same v u) 1 0)) (λ (line : Vector × Reply). cond (is_new line.1 && same line.0 u) 1 0) (zip trace replies)
     (λ line k. this-weight u line.0 line.1))
     ∙ sym (tally count trace replies workers block h callers (λ v fresh. cond (fresh && same v u) 1 0) agrees some)
-    ∙ gives-once count u h agrees.legal ∙ rw name refl
+    ∙ gives-once count u h agrees.among.legal ∙ rw name refl
 
 pub each-new-once : (count : ℕ) (trace : List Vector) (replies : List Reply) (workers block : ℕ) (h : History) (callers : List ℕ)
     → Agrees count trace replies workers block [] h callers → 0 < workers → EachNewOnce trace replies
@@ -166,19 +166,19 @@ pub counts-distinct : (count : ℕ) (trace : List Vector) (replies : List Reply)
     → Agrees count trace replies workers block [] h callers → 0 < workers → CountsDistinct trace replies
 counts-distinct count trace replies workers block h callers agrees some none =
     let lines = zip trace replies in
-    sym (count-replies is_new trace replies agrees.one_each)
+    sym (count-replies is_new trace replies agrees.among.one_each)
     ∙ distinct-sum (λ (line : Vector × Reply). line.0) (λ (line : Vector × Reply). cond (is_new line.1) 1 0) lines
     (λ x at. let both = zip-at trace replies x at.0 at.1 in
     count-filter (λ (line : Vector × Reply). same line.0 x.0) (λ (line : Vector × Reply). is_new line.1) lines
     ∙ count-same (λ (line : Vector × Reply). same line.0 x.0 && is_new line.1) (λ (line : Vector × Reply). is_new line.1 && same line.0 x.0) lines
     (λ line. and-swapped (same line.0 x.0) (is_new line.1))
     ∙ new-once count trace replies workers block h callers agrees some none x.0 (at.0, both.0))
-    ∙ ap (λ (t : List Vector). length (distinct t)) (zip-firsts trace replies agrees.one_each)
+    ∙ ap (λ (t : List Vector). length (distinct t)) (zip-firsts trace replies agrees.among.one_each)
 
 -- where no flag is set, cleared or read, replies agree whatever the number of flags is
-pub agrees-any-flags : (some other : ℕ) (trace : List Vector) (replies : List Reply) (workers block : ℕ) (earlier later : History) (callers : List ℕ) → PutsOnly later
-    → Agrees some trace replies workers block earlier later callers → Agrees other trace replies workers block earlier later callers
-agrees-any-flags some other trace replies workers block earlier later callers puts agrees = record {
+among-any-flags : (some other : ℕ) (trace : List Vector) (replies : List Reply) (workers block : ℕ) (earlier later : History) (callers : List ℕ) → PutsOnly later
+    → AgreesAmongOthers some trace replies workers block earlier later callers → AgreesAmongOthers other trace replies workers block earlier later callers
+among-any-flags some other trace replies workers block earlier later callers puts agrees = record {
   one_each = agrees.one_each;
   legal = any-flags some other later puts agrees.legal;
   extends = agrees.extends;
@@ -187,5 +187,11 @@ agrees-any-flags some other trace replies workers block earlier later callers pu
   callers_new = agrees.callers_new;
   in_order = agrees.in_order;
   full = agrees.full;
+}
+
+pub agrees-any-flags : (some other : ℕ) (trace : List Vector) (replies : List Reply) (workers block : ℕ) (earlier later : History) (callers : List ℕ) → PutsOnly later
+    → Agrees some trace replies workers block earlier later callers → Agrees other trace replies workers block earlier later callers
+agrees-any-flags some other trace replies workers block earlier later callers puts agrees = record {
+  among = among-any-flags some other trace replies workers block earlier later callers puts agrees.among;
   no_others = agrees.no_others;
 }

@@ -89,9 +89,9 @@ tally count trace replies workers block h callers w agrees some =
     let by-caller : sum_by (entry_weight w) h ≡ sum_by (λ c. sum_by (entry_weight w) (calls h c)) callers =
     sum-by-classes (λ (a b : ℕ). a == b) (λ (e : Entry). e.caller) callers (entry_weight w) h
     (λ e at. let known = at-contained callers e.caller (agrees.no_others h refl e (contained-at h e at)) in
-    count-single callers e.caller known.0 (λ i j a b. agrees.callers_differ i j e.caller a b) known.1) in
+    count-single callers e.caller known.0 (λ i j a b. agrees.among.callers_differ i j e.caller a b) known.1) in
     let worker : (j c : ℕ) → slice_get callers j ≡ Some c → sum_by (entry_weight w) (calls h c) ≡ sum_by place (mine_of j) =
-    λ j c at. ap (λ (t : History). sum_by (entry_weight w) t) (agrees.in_order j c at)
+    λ j c at. ap (λ (t : History). sum_by (entry_weight w) t) (agrees.among.in_order j c at)
     ∙ sum-filter_map (entry_weight w) (entry_at c trace replies) (mine_of j)
     ∙ sum-same (λ (i : ℕ). weight_of (entry_weight w) (entry_at c trace replies i)) place (mine_of j) (λ i k. any-caller-at w c trace replies i) in
     let by-worker : sum_by (λ c. sum_by (entry_weight w) (calls h c)) callers ≡ sum_by (λ j. sum_by place (mine_of j)) (range_with_len 0 (length callers)) =
@@ -104,5 +104,5 @@ tally count trace replies workers block h callers w agrees some =
     sum-places (line_weight w) place 0 (zip trace replies)
     (λ k line at. let both = zip-at trace replies line k at in
     place-weight w trace replies k line.0 line.1 both.0 both.1 ∙ ap place (omega arith)) in
-    by-caller ∙ by-worker ∙ ap (λ (n : ℕ). sum_by (λ j. sum_by place (mine_of j)) (range_with_len 0 n)) agrees.callers_count
-    ∙ sym all-lines ∙ ap (λ (n : ℕ). sum_by place (range_with_len 0 n)) (sym (length-zip trace replies agrees.one_each)) ∙ sym lines
+    by-caller ∙ by-worker ∙ ap (λ (n : ℕ). sum_by (λ j. sum_by place (mine_of j)) (range_with_len 0 n)) agrees.among.callers_count
+    ∙ sym all-lines ∙ ap (λ (n : ℕ). sum_by place (range_with_len 0 n)) (sym (length-zip trace replies agrees.among.one_each)) ∙ sym lines

@@ -28,8 +28,9 @@ entry_at caller trace replies i = entry_of_both caller (slice_get trace i) (slic
 abbrev pub told : ℕ → List Vector → List Reply → History
 told caller vectors replies = filter_map (λ line. entry_of caller line.0 line.1) (zip vectors replies)
 
--- the replies to the lines of a trace, dealt out in blocks to workers who are these callers, form one history that goes on from an earlier one
-pub record Agrees (flag_count : ℕ) (trace : List Vector) (replies : List Reply) (workers block : ℕ) (earlier later : History) (callers : List ℕ) : Type 0 where
+-- the replies to the lines of a trace, dealt out in blocks to workers who are these callers, are those of one history that goes on from an earlier one; others may
+-- have called too
+pub record AgreesAmongOthers (flag_count : ℕ) (trace : List Vector) (replies : List Reply) (workers block : ℕ) (earlier later : History) (callers : List ℕ) : Type 0 where
   pub one_each : length replies ≡ length trace
   pub legal : IsLegal flag_count later
   pub extends : Extends earlier later
@@ -38,4 +39,8 @@ pub record Agrees (flag_count : ℕ) (trace : List Vector) (replies : List Reply
   pub callers_new : (c : ℕ) → Contains callers c → calls earlier c ≡ []
   pub in_order : (j c : ℕ) → slice_get callers j ≡ Some c → calls later c ≡ filter_map (entry_at c trace replies) (mine (length trace) workers block j)
   pub full : (i : ℕ) (v : Vector) (reply : Reply) → slice_get trace i ≡ Some v → slice_get replies i ≡ Some reply → is_full reply ≡ true → name_of later v ≡ None
+
+-- the same, where nobody else called after the earlier history
+pub record Agrees (flag_count : ℕ) (trace : List Vector) (replies : List Reply) (workers block : ℕ) (earlier later : History) (callers : List ℕ) : Type 0 where
+  pub among : AgreesAmongOthers flag_count trace replies workers block earlier later callers
   pub no_others : (more : History) → later ≡ earlier ++ more → (e : Entry) → Contains more e → Contains callers e.caller

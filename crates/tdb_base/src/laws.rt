@@ -1,7 +1,7 @@
 //! Laws of the definitions in specs/, each the contract of a function that does nothing.
 
 ghost use Rattle.std.specs.Prelude.{◌≡◌, ◌<◌, Some, ℕ, List, []};
-ghost use Rattle.tdb_base.specs.Agrees.{Agrees};
+ghost use Rattle.tdb_base.specs.Agrees.{Agrees, AgreesAmongOthers};
 ghost use Rattle.tdb_base.specs.Headline.{EqualLinesEqualIds, DifferentLinesDifferentIds, CountsNames, EachNewOnce, CountsDistinct};
 ghost use Rattle.tdb_base.specs.History.{Vector, History, name_of};
 ghost use Rattle.tdb_base.specs.Legal.{IsLegal, IsNamedIn, KeepsNames, PutsOnly};
@@ -25,12 +25,13 @@ pub fn names_are_given_by_entries()
     ensures named { (flag_count : ℕ) (h : History) (v : Vector) (id : ℕ) → IsLegal flag_count h → IsNamedIn h v id → name_of h v ≡ Some id }
 {}
 
-/// What replies that agree with a history from nothing tell of the lines of their trace, however these were dealt out to workers.
+/// What replies that agree with a history tell of the lines of their trace, however these were dealt out to workers: the identifiers whoever else called
+/// and whatever was called before, the counts where nobody else did and nothing was.
 pub fn replies_tell_of_lines()
-    ensures equal_lines_equal_identifiers { (flag_count : ℕ) (trace : List Vector) (replies : List Reply) (workers block : ℕ) (h : History) (callers : List ℕ)
-        → Agrees flag_count trace replies workers block [] h callers → 0 < workers → EqualLinesEqualIds trace replies }
-    ensures different_lines_different_identifiers { (flag_count : ℕ) (trace : List Vector) (replies : List Reply) (workers block : ℕ) (h : History) (callers : List ℕ)
-        → Agrees flag_count trace replies workers block [] h callers → 0 < workers → DifferentLinesDifferentIds trace replies }
+    ensures equal_lines_equal_identifiers { (flag_count : ℕ) (trace : List Vector) (replies : List Reply) (workers block : ℕ) (earlier h : History) (callers : List ℕ)
+        → AgreesAmongOthers flag_count trace replies workers block earlier h callers → 0 < workers → EqualLinesEqualIds trace replies }
+    ensures different_lines_different_identifiers { (flag_count : ℕ) (trace : List Vector) (replies : List Reply) (workers block : ℕ) (earlier h : History) (callers : List ℕ)
+        → AgreesAmongOthers flag_count trace replies workers block earlier h callers → 0 < workers → DifferentLinesDifferentIds trace replies }
     ensures count_is_the_number_of_names { (flag_count : ℕ) (trace : List Vector) (replies : List Reply) (workers block : ℕ) (h : History) (callers : List ℕ)
         → Agrees flag_count trace replies workers block [] h callers → 0 < workers → CountsNames replies h }
     ensures each_new_exactly_once { (flag_count : ℕ) (trace : List Vector) (replies : List Reply) (workers block : ℕ) (h : History) (callers : List ℕ)

@@ -196,14 +196,16 @@ pub all-answered : (lines : List Vector) (replies : List Reply) (has : ℕ → B
 all-answered lines replies has done = record {
   history = entries lines replies;
   agrees = record {
-    one_each = done.count;
-    legal = done.legal;
-    extends = record { more = entries lines replies; whole = refl };
-    callers_count = refl;
-    callers_differ = λ j k c a b. (let first = only j c a in let second = only k c b in first.0 ∙ sym second.0);
-    callers_new = λ c there. refl;
-    in_order = λ j c a. in-order j c (only j c a);
-    full = λ i v reply at reply-at full. cc (none-full replies i reply done.never_full reply-at, full);
+    among = record {
+      one_each = done.count;
+      legal = done.legal;
+      extends = record { more = entries lines replies; whole = refl };
+      callers_count = refl;
+      callers_differ = λ j k c a b. (let first = only j c a in let second = only k c b in first.0 ∙ sym second.0);
+      callers_new = λ c there. refl;
+      in_order = λ j c a. in-order j c (only j c a);
+      full = λ i v reply at reply-at full. cc (none-full replies i reply done.never_full reply-at, full);
+    };
     no_others = λ more whole e there.
         (let at = at-contained more e there in
         let here = subst (λ (t : History). At t e) (sym whole) at in

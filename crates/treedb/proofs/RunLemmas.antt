@@ -61,11 +61,11 @@ some-worker {words} {told} run = subst (λ (c : Choice). 0 < c.workers) (sym (on
 -- the plain sentences on a run
 pub run-equal : (words : List (List ℕ)) (told : Option (List ℕ)) (run : Run words told) → EqualLinesEqualIds run.trace run.replies
 run-equal words told run =
-    equal-lines run.choice.flag_count run.trace run.replies run.choice.workers run.choice.block [] run.history (range_with_len 0 run.choice.workers) run.agrees (some-worker run)
+    equal-lines run.choice.flag_count run.trace run.replies run.choice.workers run.choice.block [] run.history (range_with_len 0 run.choice.workers) run.agrees.among (some-worker run)
 
 pub run-different : (words : List (List ℕ)) (told : Option (List ℕ)) (run : Run words told) → DifferentLinesDifferentIds run.trace run.replies
 run-different words told run =
-    different-lines run.choice.flag_count run.trace run.replies run.choice.workers run.choice.block [] run.history (range_with_len 0 run.choice.workers) run.agrees (some-worker run)
+    different-lines run.choice.flag_count run.trace run.replies run.choice.workers run.choice.block [] run.history (range_with_len 0 run.choice.workers) run.agrees.among (some-worker run)
 
 pub run-names : (words : List (List ℕ)) (told : Option (List ℕ)) (run : Run words told) → CountsNames run.replies run.history
 run-names words told run =

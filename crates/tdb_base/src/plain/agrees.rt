@@ -1,9 +1,9 @@
-//! Whether the replies to a trace form one history, as a plain slow function, to try runs of small cases.
+//! Whether the replies to a trace form one history, as plain slow functions, to try runs of small cases.
 
 ghost use Rattle.std.specs.Prelude.{[], ◌≡◌, ◌++◌, ◌&&◌, ◌↔◌, ◌<◌, ◌^◌, ℕ, Some, None, Contains, IsTrue, All, length, map, not, slice_get, true, false};
 ghost use Rattle.std.specs.List.{filter_map};
 ghost use Rattle.std.specs.Option.{option_copied};
-ghost use Rattle.tdb_base.specs.Agrees.{Agrees, entry_at, entry_of};
+ghost use Rattle.tdb_base.specs.Agrees.{Agrees, AgreesAmongOthers, entry_at, entry_of};
 ghost use Rattle.tdb_base.specs.History as h;
 ghost use Rattle.tdb_base.specs.Legal.{Extends};
 ghost use Rattle.tdb_base.specs.Lines as lines;
@@ -18,7 +18,7 @@ use crate::Reply;
 use crate::plain::{Act, Entry, is_legal, name_of};
 
 /// Whether the replies to the lines of a trace, dealt out in blocks of `block` lines to so many workers, who are these callers, form one history
-/// that goes on from an earlier one, of vectors with so many flags.
+/// that goes on from an earlier one, of vectors with so many flags, and nobody else called after that.
 ///
 /// There is a worker, and a block has a line. The flags that the calls of the later history name are below 32.
 pub fn agrees(
@@ -37,6 +37,33 @@ pub fn agrees(
     requires block { 0 < block }
     ensures { IsTrue result ↔ Agrees flag_count (map (λ v. v.items) trace.now) replies.now workers block earlier.now later.now callers.now }
 {
+    if !agrees_among_others(
+        trace, replies, workers, block, earlier, later, callers, flag_count,
+    ) {
+        return false;
+    }
+    no_others(earlier, later, callers)
+}
+
+/// Whether `agrees` holds but for who else called: others may have called after the earlier history too.
+///
+/// There is a worker, and a block has a line. The flags that the calls of the later history name are below 32.
+pub fn agrees_among_others(
+    trace: &[Vec<u32>],
+    replies: &[Reply],
+    workers: u64,
+    block: u64,
+    earlier: &[Entry],
+    later: &[Entry],
+    callers: &[u64],
+    flag_count: u32,
+) -> bool
+    requires few { length later.now < 2 ^ 32 }
+    requires low { All FlagsBelow32 later.now }
+    requires some { 0 < workers }
+    requires block { 0 < block }
+    ensures { IsTrue result ↔ AgreesAmongOthers flag_count (map (λ v. v.items) trace.now) replies.now workers block earlier.now later.now callers.now }
+{
     if replies.len() != trace.len() || callers.len() as u64 != workers {
         return false;
     }
@@ -49,7 +76,7 @@ pub fn agrees(
     if !all_in_order(trace, replies, workers, block, later, callers) {
         return false;
     }
-    full_unnamed(trace, replies, later) && no_others(earlier, later, callers)
+    full_unnamed(trace, replies, later)
 }
 
 // Whether the call is by this caller, did this with this vector, and got this identifier.

@@ -1,12 +1,11 @@
-use Rattle.std.specs.Prelude.{[]}
 use Rattle.tdb_base.proofs.HeadlineLemmas.{counts-distinct, counts-names, different-lines, each-new-once, equal-lines}
 use Rattle.tdb_base.proofs.laws.replies_tell_of_lines.Goals as goal
 
 pub returns-clause-equal_lines_equal_identifiers : goal.returns-clause-equal_lines_equal_identifiers
-returns-clause-equal_lines_equal_identifiers c = λ count trace replies workers block h callers. equal-lines count trace replies workers block [] h callers
+returns-clause-equal_lines_equal_identifiers c = equal-lines
 
 pub returns-clause-different_lines_different_identifiers : goal.returns-clause-different_lines_different_identifiers
-returns-clause-different_lines_different_identifiers c = λ count trace replies workers block h callers. different-lines count trace replies workers block [] h callers
+returns-clause-different_lines_different_identifiers c = different-lines
 
 pub returns-clause-count_is_the_number_of_names : goal.returns-clause-count_is_the_number_of_names
 returns-clause-count_is_the_number_of_names c = counts-names

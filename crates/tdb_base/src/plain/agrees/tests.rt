@@ -1,6 +1,6 @@
 //! Agreement on small runs, which were worked out by hand.
 
-use super::agrees;
+use super::{agrees, agrees_among_others};
 use crate::Reply;
 use crate::plain::Act;
 use crate::plain::tests::{A, B, C, Call, FRESH, SEEN, history, vectors};
@@ -69,12 +69,13 @@ const IDLE: Run = Run {
     flag_count: 0,
 };
 
-fn is_agreed(rt: &impl Abort, alloc: Global, run: Run) -> Result<bool, AllocError> {
+// Whether the run agrees, and whether it does where others may have called too.
+fn is_agreed(rt: &impl Abort, alloc: Global, run: Run) -> Result<(bool, bool), AllocError> {
     assert!(rt; run.workers > 0 && run.block > 0);
     let trace = vectors(alloc, run.trace)?;
     let earlier = history(rt, alloc, run.earlier)?;
     let later = history(rt, alloc, run.later)?;
-    Ok(agrees(
+    let whole = agrees(
         &trace,
         run.replies,
         run.workers,
@@ -83,7 +84,18 @@ fn is_agreed(rt: &impl Abort, alloc: Global, run: Run) -> Result<bool, AllocErro
         &later,
         run.callers,
         run.flag_count,
-    ))
+    );
+    let among = agrees_among_others(
+        &trace,
+        run.replies,
+        run.workers,
+        run.block,
+        &earlier,
+        &later,
+        run.callers,
+        run.flag_count,
+    );
+    Ok((whole, among))
 }
 
 static AGREE: [Run; 7] = [
@@ -125,6 +137,31 @@ static AGREE: [Run; 7] = [
         replies: &[Reply::FullNodes],
         later: &[],
         ..SMALL
+    },
+];
+
+// Somebody else called after the earlier history: after the worker, before it, and between two workers.
+static WITH_OTHERS: [Run; 3] = [
+    Run {
+        later: &[(7, FRESH, A, 10), (9, SEEN, A, 10)],
+        ..SMALL
+    },
+    Run {
+        replies: &[Reply::Seen(10)],
+        later: &[(9, FRESH, A, 10), (7, SEEN, A, 10)],
+        ..SMALL
+    },
+    Run {
+        later: &[
+            (5, FRESH, B, 20),
+            (5, Act::Set(0, true), B, 20),
+            (7, FRESH, A, 10),
+            (5, Act::Set(0, false), B, 20),
+            (8, SEEN, B, 20),
+            (7, SEEN, B, 20),
+            (7, SEEN, A, 10),
+        ],
+        ..GOOD
     },
 ];
 
@@ -190,7 +227,7 @@ static OTHER_LINES: [Run; 11] = [
     },
 ];
 
-static OTHER_HISTORY: [Run; 13] = [
+static OTHER_HISTORY: [Run; 12] = [
     // callers: one too few, one too many, equal, one with an earlier call
     Run {
         callers: &[7],
@@ -208,11 +245,7 @@ static OTHER_HISTORY: [Run; 13] = [
         earlier: &[(7, FRESH, A, 10)],
         ..SMALL
     },
-    // a call of a foreign caller, one told by no line, one missing, and two in the wrong order
-    Run {
-        later: &[(7, FRESH, A, 10), (9, SEEN, A, 10)],
-        ..SMALL
-    },
+    // a call told by no line, one missing, and two in the wrong order
     Run {
         later: &[(7, FRESH, A, 10), (7, SEEN, A, 10)],
         ..SMALL
@@ -262,19 +295,21 @@ fn try_runs(
     rt: &impl Abort,
     alloc: Global,
     runs: &'static [Run],
-    agree: bool,
+    whole: bool,
+    among: bool,
 ) -> Result<(), AllocError> {
     for i in 0..runs.len() {
         let run = runs[i];
-        assert!(rt; is_agreed(rt, alloc, run)? == agree, "run {i}");
+        assert!(rt; is_agreed(rt, alloc, run)? == (whole, among), "run {i}");
     }
     Ok(())
 }
 
 #[test]
 fn runs_agree_or_differ(rt: HostRuntime) -> Result<(), Fail> {
-    try_runs(&rt, rt.alloc(), &AGREE, true)?;
-    try_runs(&rt, rt.alloc(), &OTHER_LINES, false)?;
-    try_runs(&rt, rt.alloc(), &OTHER_HISTORY, false)?;
+    try_runs(&rt, rt.alloc(), &AGREE, true, true)?;
+    try_runs(&rt, rt.alloc(), &WITH_OTHERS, false, true)?;
+    try_runs(&rt, rt.alloc(), &OTHER_LINES, false, false)?;
+    try_runs(&rt, rt.alloc(), &OTHER_HISTORY, false, false)?;
     Ok(())
 }
