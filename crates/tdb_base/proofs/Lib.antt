@@ -6,3 +6,4 @@ pub mod TallyLemmas
 pub mod HeadlineLemmas
 pub mod AgreesLemmas
 pub mod PickLemmas
+pub mod RenameLemmas

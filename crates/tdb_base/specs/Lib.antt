@@ -6,5 +6,6 @@ pub mod History
 pub mod Legal
 pub mod Lines
 pub mod Agrees
+pub mod Renamed
 pub mod Headline
 pub mod Plain

@@ -1,10 +1,13 @@
 //! Laws of the definitions in specs/, each the contract of a function that does nothing.
 
 ghost use Rattle.std.specs.Prelude.{◌≡◌, ◌<◌, Some, ℕ, List, []};
+ghost use Rattle.std.specs.List.{range_with_len};
 ghost use Rattle.tdb_base.specs.Agrees.{Agrees, AgreesAmongOthers};
 ghost use Rattle.tdb_base.specs.Headline.{EqualLinesEqualIds, DifferentLinesDifferentIds, CountsNames, EachNewOnce, CountsDistinct};
-ghost use Rattle.tdb_base.specs.History.{Vector, History, name_of};
+ghost use Rattle.tdb_base.specs.History.{Vector, History, flags_of, name_of};
 ghost use Rattle.tdb_base.specs.Legal.{IsLegal, IsNamedIn, KeepsNames, PutsOnly};
+ghost use Rattle.tdb_base.specs.Lines.{named};
+ghost use Rattle.tdb_base.specs.Renamed.{place_of, renamed};
 ghost use Rattle.tdb_base.specs.declared.reply.Reply.{Reply};
 
 /// In a legal history that goes on from another, each vector keeps the identifier that it had.
@@ -38,4 +41,15 @@ pub fn replies_tell_of_lines()
         → Agrees flag_count trace replies workers block [] h callers → 0 < workers → EachNewOnce trace replies }
     ensures count_is_the_number_of_distinct_lines { (flag_count : ℕ) (trace : List Vector) (replies : List Reply) (workers block : ℕ) (h : History) (callers : List ℕ)
         → Agrees flag_count trace replies workers block [] h callers → 0 < workers → CountsDistinct trace replies }
+{}
+
+/// A history can be told with other numbers for its callers: no name and no flags change, and it stays legal. Where nobody but a trace's workers
+/// called, its replies agree with the history in which the workers are numbered from 0.
+pub fn callers_may_be_renumbered()
+    ensures names { (given : ℕ → ℕ) (h : History) (v : Vector) → name_of (renamed given h) v ≡ name_of h v }
+    ensures flags { (given : ℕ → ℕ) (h : History) (v : Vector) → flags_of (renamed given h) v ≡ flags_of h v }
+    ensures named { (given : ℕ → ℕ) (h : History) → named (renamed given h) ≡ named h }
+    ensures legal { (flag_count : ℕ) (given : ℕ → ℕ) (h : History) → IsLegal flag_count h → IsLegal flag_count (renamed given h) }
+    ensures agrees { (flag_count : ℕ) (trace : List Vector) (replies : List Reply) (workers block : ℕ) (h : History) (callers : List ℕ)
+        → Agrees flag_count trace replies workers block [] h callers → Agrees flag_count trace replies workers block [] (renamed (place_of callers) h) (range_with_len 0 workers) }
 {}

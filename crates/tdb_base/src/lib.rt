@@ -13,7 +13,8 @@ mod steps;
 
 pub use gate::{Gate, NoGate, TurnGate};
 pub use laws::{
-    names_are_given_by_entries, names_are_kept, puts_need_no_flags, replies_tell_of_lines,
+    callers_may_be_renumbered, names_are_given_by_entries, names_are_kept, puts_need_no_flags,
+    replies_tell_of_lines,
 };
 pub use reply::{Failed, NoMemory, Reply, Status};
 pub use sink::{MemSink, Sink, SureSink};
