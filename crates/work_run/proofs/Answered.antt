@@ -1,0 +1,256 @@
+-- What one line's insertion leaves, and several lines' one after the other.
+use Rattle.std.proofs.Common.{◌≡◌, ◌⊎◌, ℕ, zero, suc, ◌+◌, ◌≤◌, List, [], ◌∷◌, ◌++◌, length, Bool, true, false, Option, Some, refl, sym, ap, ◌∙◌, subst, inl, inr, ⊎_elim, arith, append-nil, append_assoc, length-append, eq-eqb}
+use Rattle.std.specs.Prelude.{slice_get}
+use Rattle.atomic_table.specs.Seated.{TableId}
+use Rattle.tree_shape.specs.Tree.{Has, IsPart}
+use Rattle.tree_shape.proofs.Trees.{stands_more}
+use Rattle.tdb_base.specs.Agrees.{told}
+use Rattle.tdb_base.specs.History.{Vector, History, calls}
+use Rattle.tdb_base.specs.Legal.{Extends}
+use Rattle.tdb_base.specs.Replies.{is_full}
+use Rattle.tdb_base.specs.declared.reply.Reply.{Reply}
+use Rattle.tdb_base.specs.declared.reply.Reply.TheVariants as r
+use Rattle.tdb_base.proofs.PickLemmas.{told_push}
+use Rattle.pair_rule.specs.declared.sizes.About.{About}
+use Rattle.pair_rule.specs.declared.pass.PassOf.{PassOf}
+use Rattle.pair_rule.specs.View.{face}
+use Rattle.pair_rule.specs.Rest.{view, last_vector}
+use Rattle.pair_rule.proofs.Lists.{has_front, has_back, has_either}
+use Rattle.pair_rule.proofs.Histories.{extends_refl, extends_trans, calls_append}
+use Rattle.root_plain.specs.declared.root.Roots.{Roots}
+use Rattle.root_plain.specs.Plays.{Rests, call}
+use Rattle.tree_store.specs.Vectors.{puts_after, Gained, Refused}
+use Rattle.tree_store.specs.Store.{IfNamed, IfFullNodes, IfFullRoots, IfFull, NeverNamed, Advanced, HasBlockedRoot, KeepsLastTree}
+use Rattle.work_run.specs.Full.{Barred, IsOfOne}
+use Rattle.work_run.specs.Inserted.{last_after, last_of, puts_of, Inserted}
+
+-- ---- more nodes and roots
+
+-- an index that is in a tree stays in it
+pub of_one_more : (about : About) (nodes more : List (ℕ × ℕ)) (vectors : List Vector) (index : ℕ) → IsPart nodes more → IsOfOne about nodes vectors index → IsOfOne about more vectors index
+of_one_more about nodes more vectors index part o = (o.0, o.1, (o.2.0, o.2.1, o.2.2, stands_more about.width about.slots nodes more o.0 o.2.0 index part o.2.3))
+
+-- a vector stays barred
+pub barred_more : (about : About) (nodes more roots others : List (ℕ × ℕ)) (v : Vector) (reply : Reply) → IsPart nodes more → IsPart roots others → Barred about nodes roots v reply → Barred about more others v reply
+barred_more about nodes more roots others v (r.New id) p q b = tt
+barred_more about nodes more roots others v (r.Seen id) p q b = tt
+barred_more about nodes more roots others v r.FullNodes p q b = record {
+  position = b.position;
+  inner = b.inner;
+  left = b.left;
+  right = b.right;
+  left_stands = stands_more about.width about.slots nodes more v _ b.left p b.left_stands;
+  right_stands = stands_more about.width about.slots nodes more v _ b.right p b.right_stands;
+  blocked = λ step lt. (let o = b.blocked step lt in (o.0, p _ o.0 o.1, o.2));
+}
+barred_more about nodes more roots others v r.FullRoots p q b = (
+  b.0,
+  (stands_more about.width about.slots nodes more v _ _ p b.1.0, stands_more about.width about.slots nodes more v _ _ p b.1.1),
+  λ step lt. (let o = b.2 step lt in (o.0, q _ o.0 o.1, o.2)),
+)
+
+-- ---- one line
+
+module _ (table : TableId) (about : About) (v : Vector) (p q : PassOf Roots) where
+  -- facts of the one line
+  only : (P : Vector → Reply → Type 0) (reply : Reply) → P v reply → (i : ℕ) (w : Vector) (s : Reply) → slice_get (v ∷ []) i ≡ Some w → slice_get (reply ∷ []) i ≡ Some s → P w s
+  only P reply fact zero w s a b = let e : v ≡ w = cc a in let f : reply ≡ s = cc b in subst (λ (x : Vector). P x s) e (subst (λ (x : Reply). P v x) f fact)
+  only P reply fact (suc i) w s a b = cc a
+
+  mine_alone : (n : ℕ) (fresh : Bool) (id : ℕ) → calls (call n fresh v id ∷ []) n ≡ call n fresh v id ∷ []
+  mine_alone n fresh id = rw (eq-eqb n n refl) refl
+
+  called : (fresh : Bool) (id : ℕ) → Has (view p).number (view p).numbers → Advanced (call (view p).number fresh v id ∷ []) (view p) (view q)
+      → calls (view q).seen (view p).number ≡ calls (view p).seen (view p).number ++ call (view p).number fresh v id ∷ []
+  called fresh id mine k =
+      let n = (view p).number in
+      ap (λ (h : History). calls h n) k.seen
+      ∙ (calls_append k.log (call n fresh v id ∷ []) n ∙ (λ i. k.own n mine i ++ mine_alone n fresh id i))
+
+  uncalled : Has (view p).number (view p).numbers → Advanced [] (view p) (view q) → calls (view q).seen (view p).number ≡ calls (view p).seen (view p).number ++ []
+  uncalled mine k =
+      let n = (view p).number in
+      ap (λ (h : History). calls h n) k.seen ∙ (calls_append k.log [] n ∙ (λ i. k.own n mine i ++ []))
+
+  made_by : (most : ℕ) → Gained about v most (view p) (view q) → (i : ℕ) → Has i (view q).made → Has i (view p).made ⊎ IsOfOne about (view q).known (v ∷ []) i
+  made_by most g i h = ⊎_elim
+      (λ (new : Has i g.more). inr (v, inl refl, g.in_tree i new))
+      (λ (old : Has i (view p).made). inl old)
+      (has_either i g.more (view p).made (subst (λ (x : List ℕ). Has i x) g.made h))
+
+  -- a call that is one entry of the history
+  named_one : (fresh : Bool) (id : ℕ) (reply : Reply) → told (view p).number (v ∷ []) (reply ∷ []) ≡ call (view p).number fresh v id ∷ [] → is_full reply ≡ false → Barred about (view q).known (view q).root.roots v reply
+      → Rests table about p → Rests table about q → Advanced (call (view p).number fresh v id ∷ []) (view p) (view q) → last_vector q ≡ Some v
+      → Gained about v (puts_after about (last_vector p) v) (view p) (view q) → (view q).probes ≡ (view p).probes + puts_after about (last_vector p) v
+      → Inserted table about (v ∷ []) (reply ∷ []) p q
+  named_one fresh id reply entry named barred rp rq k last gained probes = record {
+    one_each = refl;
+    rest = rq;
+    face_is = k.face_is;
+    seen = extends_trans (view p).seen k.log (view q).seen k.begins (record { more = call (view p).number fresh v id ∷ []; whole = k.seen });
+    known = k.known;
+    roots = k.roots;
+    own = called fresh id rp.seat.sound.mine k ∙ ap (λ (h : History). calls (view p).seen (view p).number ++ h) (sym entry);
+    never = only (λ w s. is_full s ≡ true → NeverNamed table about q w) reply (λ t. cc (t, named));
+    barred = only (λ w s. Barred about (view q).known (view q).root.roots w s) reply barred;
+    made = made_by (puts_after about (last_vector p) v) gained;
+    last = last ∙ sym (rw named refl);
+    probes = omega (arith, probes);
+  }
+
+  -- a call for which there was no place
+  full_one : (most : ℕ) (reply : Reply) → is_full reply ≡ true → told (view p).number (v ∷ []) (reply ∷ []) ≡ [] → Rests table about p → Rests table about q
+      → face (view q) ≡ face (view p) → Extends (view p).seen (view q).seen → IsPart (view p).known (view q).known → IsPart (view p).root.roots (view q).root.roots
+      → calls (view q).seen (view p).number ≡ calls (view p).seen (view p).number ++ []
+      → Gained about v most (view p) (view q) → (view q).probes ≤ (view p).probes + puts_after about (last_vector p) v
+      → KeepsLastTree p q → NeverNamed table about q v → Barred about (view q).known (view q).root.roots v reply
+      → Inserted table about (v ∷ []) (reply ∷ []) p q
+  full_one most reply full entry rp rq face_is seen known roots own gained probes keeps never barred = record {
+    one_each = refl;
+    rest = rq;
+    face_is = face_is;
+    seen = seen;
+    known = known;
+    roots = roots;
+    own = own ∙ ap (λ (h : History). calls (view p).seen (view p).number ++ h) (sym entry);
+    never = only (λ w s. is_full s ≡ true → NeverNamed table about q w) reply (λ t. never);
+    barred = only (λ w s. Barred about (view q).known (view q).root.roots w s) reply barred;
+    made = made_by most gained;
+    last = keeps.vector ∙ sym (rw full refl);
+    probes = omega (arith, probes);
+  }
+
+  pub one_inserted : (reply : Reply) → Rests table about p → Rests table about q
+      → IfNamed reply (λ fresh id. Advanced (call (view p).number fresh v id ∷ []) (view p) (view q))
+      → IfNamed reply (λ fresh id. last_vector q ≡ Some v)
+      → IfNamed reply (λ fresh id. Gained about v (puts_after about (last_vector p) v) (view p) (view q))
+      → IfNamed reply (λ fresh id. (view q).probes ≡ (view p).probes + puts_after about (last_vector p) v)
+      → IfFullNodes reply (Refused about v (puts_after about (last_vector p) v) (view p) (view q))
+      → IfFullRoots reply (HasBlockedRoot about (view q) v)
+      → IfFullRoots reply (Advanced [] (view p) (view q))
+      → IfFullRoots reply (Gained about v (puts_after about (last_vector p) v) (view p) (view q))
+      → IfFullRoots reply ((view q).probes ≡ (view p).probes + puts_after about (last_vector p) v)
+      → IfFull reply (KeepsLastTree p q)
+      → IfFull reply (NeverNamed table about q v)
+      → Inserted table about (v ∷ []) (reply ∷ []) p q
+  one_inserted (r.New id) rp rq k last gained probes a b c d e f g = named_one true id (r.New id) refl refl tt rp rq k last gained probes
+  one_inserted (r.Seen id) rp rq k last gained probes a b c d e f g = named_one false id (r.Seen id) refl refl tt rp rq k last gained probes
+  one_inserted r.FullNodes rp rq k last gained probes a b c d e f g =
+      let w = a.grown in
+      let few : (view q).probes ≤ (view p).probes + puts_after about (last_vector p) v = omega (arith, a.probes_are, a.fewer) in
+      full_one a.puts r.FullNodes refl refl rp rq w.face_is
+      (subst (λ (h : History). Extends (view p).seen h) (sym w.seen) (extends_refl (view p).seen)) w.known
+      (subst (λ (t : Roots). IsPart (view p).root.roots t.roots) (sym w.root) (λ i x h. h))
+      (ap (λ (h : History). calls h (view p).number) w.seen ∙ sym (append-nil (calls (view p).seen (view p).number)))
+      a.gained few f g a.blocked
+  one_inserted r.FullRoots rp rq k last gained probes a b c d e f g =
+      let few : (view q).probes ≤ (view p).probes + puts_after about (last_vector p) v = omega (arith, e) in
+      full_one (puts_after about (last_vector p) v) r.FullRoots refl refl rp rq c.face_is
+      (extends_trans (view p).seen c.log (view q).seen c.begins (record { more = []; whole = c.seen })) c.known c.roots
+      (uncalled rp.seat.sound.mine c) d few f g b
+
+-- ---- several lines
+
+-- what the replies tell of, when a line is added
+told_more : (n : ℕ) (vectors : List Vector) (replies : List Reply) (v : Vector) (reply : Reply) → length replies ≡ length vectors
+    → told n (vectors ++ v ∷ []) (replies ++ reply ∷ []) ≡ told n vectors replies ++ told n (v ∷ []) (reply ∷ [])
+told_more n vectors replies v reply same = told_push n vectors replies v reply same
+
+last_more : (last : Option Vector) (vectors : List Vector) (replies : List Reply) (v : Vector) (reply : Reply) → length replies ≡ length vectors
+    → last_of last (vectors ++ v ∷ []) (replies ++ reply ∷ []) ≡ last_after (last_of last vectors replies) v reply
+last_more last [] [] v reply same = refl
+last_more last [] (s ∷ replies) v reply same = absurd (omega arith)
+last_more last (w ∷ vectors) [] v reply same = absurd (omega arith)
+last_more last (w ∷ vectors) (s ∷ replies) v reply same = last_more (last_after last w s) vectors replies v reply (omega arith)
+
+puts_more : (about : About) (last : Option Vector) (vectors : List Vector) (replies : List Reply) (v : Vector) (reply : Reply) → length replies ≡ length vectors
+    → puts_of about last (vectors ++ v ∷ []) (replies ++ reply ∷ []) ≡ puts_of about last vectors replies + puts_after about (last_of last vectors replies) v
+puts_more about last [] [] v reply same = omega arith
+puts_more about last [] (s ∷ replies) v reply same = absurd (omega arith)
+puts_more about last (w ∷ vectors) [] v reply same = absurd (omega arith)
+puts_more about last (w ∷ vectors) (s ∷ replies) v reply same = let h = puts_more about (last_after last w s) vectors replies v reply (omega arith) in omega (arith, h)
+
+-- the line at a place, when one is added
+data AtPush (vectors : List Vector) (replies : List Reply) (v : Vector) (reply : Reply) (i : ℕ) (w : Vector) (s : Reply) : Type 0 where
+  before : slice_get vectors i ≡ Some w → slice_get replies i ≡ Some s → AtPush vectors replies v reply i w s
+  final : v ≡ w → reply ≡ s → AtPush vectors replies v reply i w s
+
+at_push : (vectors : List Vector) (replies : List Reply) (v : Vector) (reply : Reply) → length replies ≡ length vectors → (i : ℕ) (w : Vector) (s : Reply)
+    → slice_get (vectors ++ v ∷ []) i ≡ Some w → slice_get (replies ++ reply ∷ []) i ≡ Some s → AtPush vectors replies v reply i w s
+at_push [] [] v reply same zero w s a b = final (cc a) (cc b)
+at_push [] [] v reply same (suc i) w s a b = cc a
+at_push [] (t ∷ replies) v reply same i w s a b = absurd (omega arith)
+at_push (u ∷ vectors) [] v reply same i w s a b = absurd (omega arith)
+at_push (u ∷ vectors) (t ∷ replies) v reply same zero w s a b = before a b
+at_push (u ∷ vectors) (t ∷ replies) v reply same (suc i) w s a b = next (at_push vectors replies v reply (omega arith) i w s a b)
+  where
+    next : AtPush vectors replies v reply i w s → AtPush (u ∷ vectors) (t ∷ replies) v reply (suc i) w s
+    next (before c d) = before c d
+    next (final c d) = final c d
+
+has_push_front : {A : Type 0} (x y : A) (xs : List A) → Has x xs → Has x (xs ++ y ∷ [])
+has_push_front x y xs h = has_front x xs (y ∷ []) h
+
+module _ (table : TableId) (about : About) where
+  -- none yet
+  pub none_inserted : (p : PassOf Roots) → Rests table about p → Inserted table about [] [] p p
+  none_inserted p rests = record {
+    one_each = refl;
+    rest = rests;
+    face_is = refl;
+    seen = extends_refl (view p).seen;
+    known = λ i x h. h;
+    roots = λ i x h. h;
+    own = sym (append-nil (calls (view p).seen (view p).number));
+    never = λ i v reply a b. cc a;
+    barred = λ i v reply a b. cc a;
+    made = λ i h. inl h;
+    last = refl;
+    probes = omega arith;
+  }
+
+  -- a vector has no name for good
+  never_later : (p q : PassOf Roots) (v : Vector) → IsPart (view p).known (view q).known → IsPart (view p).root.roots (view q).root.roots → NeverNamed table about p v → NeverNamed table about q v
+  never_later p q v known roots never u ru a b = never u ru (λ i x h. a i x (known i x h)) (λ i x h. b i x (roots i x h))
+
+  -- one line more
+  pub more_inserted : (p q w : PassOf Roots) (vectors : List Vector) (replies : List Reply) (v : Vector) (reply : Reply) → Inserted table about vectors replies p q → Inserted table about (v ∷ []) (reply ∷ []) q w
+      → Inserted table about (vectors ++ v ∷ []) (replies ++ reply ∷ []) p w
+  more_inserted p q w vectors replies v reply a b =
+      let n = (view p).number in
+      let same : (view q).number ≡ n = ap (λ f. f.number) a.face_is in
+      record {
+        one_each = length-append replies (reply ∷ []) ∙ omega (arith, a.one_each, length-append vectors (v ∷ []));
+        rest = b.rest;
+        face_is = b.face_is ∙ a.face_is;
+        seen = extends_trans (view p).seen (view q).seen (view w).seen a.seen b.seen;
+        known = λ i x h. b.known i x (a.known i x h);
+        roots = λ i x h. b.roots i x (a.roots i x h);
+        own = subst (λ (m : ℕ). calls (view w).seen m ≡ calls (view q).seen m ++ told m (v ∷ []) (reply ∷ [])) same b.own
+            ∙ (ap (λ (h : History). h ++ told n (v ∷ []) (reply ∷ [])) a.own
+            ∙ (append_assoc (calls (view p).seen n) (told n vectors replies) (told n (v ∷ []) (reply ∷ []))
+            ∙ ap (λ (h : History). calls (view p).seen n ++ h) (sym (told_more n vectors replies v reply a.one_each))));
+        never = λ i u s x y full. of_never i u s full (at_push vectors replies v reply a.one_each i u s x y);
+        barred = λ i u s x y. of_barred i u s (at_push vectors replies v reply a.one_each i u s x y);
+        made = λ i h. ⊎_elim
+            (λ (old : Has i (view q).made). ⊎_elim
+            (λ (first : Has i (view p).made). inl first)
+            (λ (of : IsOfOne about (view q).known vectors i). let o = of_one_more about (view q).known (view w).known vectors i b.known of in inr (o.0, has_front o.0 vectors (v ∷ []) o.1, o.2))
+            (a.made i old))
+            (λ (of : IsOfOne about (view w).known (v ∷ []) i). inr (of.0, has_back of.0 vectors (v ∷ []) of.1, of.2))
+            (b.made i h);
+        last = b.last ∙ (ap (λ (o : Option Vector). last_after o v reply) a.last ∙ sym (last_more (last_vector p) vectors replies v reply a.one_each));
+        probes = (let e = puts_more about (last_vector p) vectors replies v reply a.one_each in
+            let f = ap (λ (o : Option Vector). puts_after about o v) a.last in
+            omega (arith, a.probes, b.probes, e, f));
+      }
+    where
+      of_never : (i : ℕ) (u : Vector) (s : Reply) → is_full s ≡ true → AtPush vectors replies v reply i u s → NeverNamed table about w u
+      of_never i u s full (before x y) = never_later q w u b.known b.roots (a.never i u s x y full)
+      of_never i u s full (final x y) = subst (λ (z : Vector). NeverNamed table about w z) x (b.never 0 v reply refl refl (ap is_full y ∙ full))
+
+      of_barred : (i : ℕ) (u : Vector) (s : Reply) → AtPush vectors replies v reply i u s → Barred about (view w).known (view w).root.roots u s
+      of_barred i u s (before x y) = barred_more about (view q).known (view w).known (view q).root.roots (view w).root.roots u s b.known b.roots (a.barred i u s x y)
+      of_barred i u s (final x y) =
+          subst (λ (z : Vector). Barred about (view w).known (view w).root.roots z s) x
+          (subst (λ (z : Reply). Barred about (view w).known (view w).root.roots v z) y (b.barred 0 v reply refl refl))

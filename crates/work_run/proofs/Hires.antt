@@ -1,0 +1,205 @@
+-- Workers are hired one after the other, and leave again without having done anything.
+use Rattle.std.proofs.Common.{◌≡◌, ◌⊎◌, ℕ, zero, suc, ◌<◌, List, [], ◌∷◌, ◌++◌, length, get_or, map, Bool, true, false, refl, sym, ap, ◌∙◌, subst, inl, inr, ⊎_elim, arith, append-nil, length-append}
+use Rattle.std.specs.Prelude.{nat_lt, if◌then◌else◌}
+use Rattle.atomic_table.specs.Seated.{TableId}
+use Rattle.tree_shape.specs.Tree.{Has, IsPart}
+use Rattle.tdb_base.specs.History.{History}
+use Rattle.pair_rule.specs.declared.view.View.{View}
+use Rattle.pair_rule.specs.declared.sizes.About.{About}
+use Rattle.pair_rule.specs.declared.pass.PassOf.{PassOf}
+use Rattle.pair_rule.specs.Numbers.{child}
+use Rattle.pair_rule.specs.View.{longer, left, right}
+use Rattle.pair_rule.specs.Rest.{AtRest, Whole, view}
+use Rattle.pair_rule.proofs.Lists.{has_front, has_either}
+use Rattle.work_run.specs.declared.worker.Worker.{Worker}
+use Rattle.work_run.specs.Crew.{lefts, joints, IsHired, Hired, Joined, Unused}
+use Rattle.work_run.proofs.Joins.{has_map, numbers_first, numbers_other}
+
+-- the longer of one history and itself
+longer_same : (h : History) → longer h h ≡ h
+longer_same h = by (nat_lt (length h) (length h))
+  where
+    by : (b : Bool) → (if b then h else h) ≡ h
+    by true = refl
+    by false = refl
+
+module _ {T : Type 0} where
+  -- the number that is given at the split with this number
+  abbrev pub given : View T → ℕ → ℕ
+  given v j = child (lefts j v).number (lefts j v).splits
+
+  -- the passes that were split from a view
+  pub born_of : (v : View T) (n c : ℕ) → Has c (lefts n v).born → Has c v.born ⊎ ((j : ℕ) × (j < n) × (c ≡ given v j))
+  born_of v zero c h = inl h
+  born_of v (suc n) c h = ⊎_elim
+      (λ (e : c ≡ given v n). let found : (j : ℕ) × (j < suc n) × (c ≡ given v j) = (n, omega arith, e) in inr found)
+      (λ (t : Has c (lefts n v).born). ⊎_elim
+      (λ (b : Has c v.born). inl b)
+      (λ (f : (j : ℕ) × (j < n) × (c ≡ given v j)). let found : (j : ℕ) × (j < suc n) × (c ≡ given v j) = (f.0, omega (arith, f.1), f.2) in inr found)
+      (born_of v n c t))
+      h
+
+  -- and what a view keeps from which passes were split
+  pub record Stays (v w : View T) : Type 0 where
+    pub about : w.about ≡ v.about
+    pub number : w.number ≡ v.number
+    pub numbers : w.numbers ≡ v.numbers
+    pub seen : w.seen ≡ v.seen
+    pub known : w.known ≡ v.known
+    pub made : w.made ≡ v.made
+    pub probes : w.probes ≡ v.probes
+    pub root : w.root ≡ v.root
+
+  pub lefts_stay : (n : ℕ) (v : View T) → Stays v (lefts n v)
+  lefts_stay zero v = record { about = refl; number = refl; numbers = refl; seen = refl; known = refl; made = refl; probes = refl; root = refl }
+  lefts_stay (suc n) v = let s = lefts_stay n v in record { about = s.about; number = s.number; numbers = s.numbers; seen = s.seen; known = s.known; made = s.made; probes = s.probes; root = s.root }
+
+  module _ (glue : T → T → T) where
+    -- what was born of views that were joined into one
+    pub born_either : (v : View T) (ws : List (View T)) (c : ℕ) → ((w : View T) → Has w ws → w.born ≡ []) → Has c (joints glue v ws).born → Has c v.born
+    born_either v [] c none h = h
+    born_either v (w ∷ ws) c none h = ⊎_elim
+        (λ (a : Has c (joints glue v ws).born). born_either v ws c (λ u t. none u (inr t)) a)
+        (λ (b : Has c w.born). absurd (subst (λ (x : List ℕ). Has c x) (none w (inl refl)) b))
+        (has_either c (joints glue v ws).born w.born h)
+
+    -- views of which a whole view was split are a whole view again when they are joined into it
+    pub whole_again : (v : View T) (n : ℕ) (ws : List (View T)) → Whole v → ((w : View T) → Has w ws → w.born ≡ []) → ((j : ℕ) → j < n → (w : View T) × Has w ws × Has (given v j) w.numbers) → Whole (joints glue (lefts n v) ws)
+    whole_again v n ws whole none each = record {
+      first = numbers_first glue (lefts n v) ws 0 (subst (λ (x : List ℕ). Has 0 x) (sym (lefts_stay n v).numbers) whole.first);
+      all = λ c h. ⊎_elim
+          (λ (b : Has c v.born). numbers_first glue (lefts n v) ws c (subst (λ (x : List ℕ). Has c x) (sym (lefts_stay n v).numbers) (whole.all c b)))
+          (λ (f : (j : ℕ) × (j < n) × (c ≡ given v j)). let w = each f.0 f.1 in subst (λ (x : ℕ). Has x (joints glue (lefts n v) ws).numbers) (sym f.2) (numbers_other glue (lefts n v) w.0 ws (given v f.0) w.1 w.2))
+          (born_of v n c (born_either (lefts n v) ws c none h));
+    }
+
+    -- views that did nothing
+    pub record DidNothing (v w : View T) : Type 0 where
+      pub seen : w.seen ≡ v.seen
+      pub known : w.known ≡ v.known
+      pub made : w.made ≡ []
+      pub probes : w.probes ≡ 0
+
+    pub record Nothing (v w : View T) : Type 0 where
+      pub seen : w.seen ≡ v.seen
+      pub known : IsPart v.known w.known × IsPart w.known v.known
+      pub made : w.made ≡ v.made
+      pub probes : w.probes ≡ v.probes
+
+    pub joints_nothing : (v : View T) (ws : List (View T)) → ((w : View T) → Has w ws → DidNothing v w) → Nothing v (joints glue v ws)
+    joints_nothing v [] each = record { seen = refl; known = (λ i x h. h, λ i x h. h); made = refl; probes = refl }
+    joints_nothing v (w ∷ ws) each =
+        let s = joints_nothing v ws (λ u t. each u (inr t)) in
+        let d = each w (inl refl) in
+        let j = joints glue v ws in
+        record {
+          seen = (λ k. longer (s.seen k) (d.seen k)) ∙ longer_same v.seen;
+          known = (
+            λ i x h. has_front (i, x) j.known w.known (s.known.0 i x h),
+            λ i x h. ⊎_elim (λ (a : Has (i, x) j.known). s.known.1 i x a) (λ (b : Has (i, x) w.known). subst (λ (l : List (ℕ × ℕ)). Has (i, x) l) d.known b) (has_either (i, x) j.known w.known h),
+          );
+          made = (λ k. s.made k ++ d.made k) ∙ append-nil v.made;
+          probes = omega (arith, s.probes, d.probes);
+        }
+
+pub has_unmap : {A B : Type 0} (f : A → B) (y : B) (xs : List A) → Has y (map f xs) → (x : A) × Has x xs × (y ≡ f x)
+has_unmap f y [] h = absurd h
+has_unmap f y (x ∷ xs) h = ⊎_elim (λ (e : y ≡ f x). (x, inl refl, e)) (λ (t : Has y (map f xs)). let m = has_unmap f y xs t in (m.0, inr m.1, m.2)) h
+
+pub has_place : {A : Type 0} (x : A) (xs : List A) → Has x xs → (j : ℕ) × (j < length xs) × (get_or xs j x ≡ x)
+has_place x [] h = absurd h
+has_place x (y ∷ ys) h = ⊎_elim
+    (λ (e : x ≡ y). let found : (j : ℕ) × (j < suc (length ys)) × (get_or (y ∷ ys) j x ≡ x) = (zero, omega arith, sym e) in found)
+    (λ (t : Has x ys). let m = has_place x ys t in let found : (j : ℕ) × (j < suc (length ys)) × (get_or (y ∷ ys) j x ≡ x) = (suc m.0, omega (arith, m.1), m.2) in found)
+    h
+
+-- the element at a place
+pub record Placed {A : Type 0} (xs : List A) (j : ℕ) : Type 0 where
+  pub one : A
+  pub there : Has one xs
+  pub here : (d : A) → get_or xs j d ≡ one
+
+pub placed : {A : Type 0} (xs : List A) (j : ℕ) → j < length xs → Placed xs j
+placed [] j lt = absurd (omega arith)
+placed (x ∷ xs) zero lt = record { one = x; there = inl refl; here = λ d. refl }
+placed (x ∷ xs) (suc j) lt = let p = placed xs j (omega arith) in record { one = p.one; there = inr p.there; here = λ d. p.here d }
+
+-- a fact of each place, when an element is added
+pub each_push : {A : Type 0} (P : ℕ → A → Type 0) (xs : List A) (x : A) → ((j : ℕ) (d : A) → j < length xs → P j (get_or xs j d)) → P (length xs) x
+    → (j : ℕ) (d : A) → j < length (xs ++ x ∷ []) → P j (get_or (xs ++ x ∷ []) j d)
+each_push P [] x each here zero d lt = here
+each_push P [] x each here (suc j) d lt = absurd (omega arith)
+each_push P (y ∷ ys) x each here zero d lt = each zero d (omega arith)
+each_push P (y ∷ ys) x each here (suc j) d lt = each_push (λ k. P (suc k)) ys x (λ k e l. each (suc k) e (omega arith)) here j d (omega arith)
+
+module _ {T : Type 0} (roots : About → History → T → List (ℕ × ℕ)) (house : About → List (ℕ × ℕ) → Type 0) (told : About → View T → Type 0) (table : TableId) (about : About) (cut : T → T) (rooms : ℕ → ℕ) where
+  pub hired_none : (p : PassOf T) → AtRest roots house told table about p → Hired roots house told table about cut rooms p p []
+  hired_none p rests = record { rest = rests; pass_is = refl; view_is = refl; each = λ j d lt. absurd (omega arith) }
+
+  pub hired_more : (base old new : PassOf T) (crew : List (Worker T)) (worker : Worker T) → Hired roots house told table about cut rooms base old crew → AtRest roots house told table about new
+      → view new ≡ left (view old) → new ≡ record old { seat = new.seat } → IsHired roots house told table about cut (view old) (length crew) (rooms (length crew)) worker
+      → Hired roots house told table about cut rooms base new (crew ++ worker ∷ [])
+  hired_more base old new crew worker h rests is same one = record {
+    rest = rests;
+    pass_is = same ∙ (λ i. record (h.pass_is i) { seat = new.seat });
+    view_is = is ∙ (ap (λ (v : View T). left v) h.view_is ∙ ap (λ (n : ℕ). lefts n (view base)) (let long : suc (length crew) ≡ length (crew ++ worker ∷ []) = omega (arith, length-append crew (worker ∷ [])) in long));
+    each = each_push (λ j w. IsHired roots house told table about cut (lefts j (view base)) j (rooms j) w) crew worker h.each
+        (subst (λ (v : View T). IsHired roots house told table about cut v (length crew) (rooms (length crew)) worker) h.view_is one);
+  }
+
+  -- a crew that leaves without having done anything
+  pub unused : (glue : T → T → T) (base now new : PassOf T) (crew : List (Worker T)) → Hired roots house told table about cut rooms base now crew
+      → Joined roots house told table about glue now new (map (λ (w : Worker T). w.pass) crew) → Unused base new
+  unused glue base now new crew h j =
+      let v = view base in
+      let passes = map (λ (w : Worker T). w.pass) crew in
+      let ws = map (λ (p : PassOf T). view p) passes in
+      let final : view new ≡ joints glue (lefts (length crew) v) ws = j.view_is ∙ ap (λ (x : View T). joints glue x ws) h.view_is in
+      let stay = lefts_stay (length crew) v in
+      let n = joints_nothing glue (lefts (length crew) v) ws (λ u t. did u t) in
+      let from = sym final in
+      record {
+        pass_is = j.pass_is ∙ (λ i. record (h.pass_is i) { seat = new.seat; nodes_count = new.nodes_count; names_count = new.names_count });
+        seen = ap (λ (x : View T). x.seen) final ∙ (n.seen ∙ stay.seen);
+        numbers = λ c t. subst (λ (x : View T). Has c x.numbers) from (numbers_first glue (lefts (length crew) v) ws c (subst (λ (x : List ℕ). Has c x) (sym stay.numbers) t));
+        known = (
+          λ i x t. subst (λ (y : View T). Has (i, x) y.known) from (n.known.0 i x (subst (λ (y : List (ℕ × ℕ)). Has (i, x) y) (sym stay.known) t)),
+          λ i x t. subst (λ (y : List (ℕ × ℕ)). Has (i, x) y) stay.known (n.known.1 i x (subst (λ (y : View T). Has (i, x) y.known) final t)),
+        );
+        made = ap (λ (x : View T). x.made) final ∙ (n.made ∙ stay.made);
+        probes = ap (λ (x : View T). x.probes) final ∙ (n.probes ∙ stay.probes);
+        whole = λ whole. subst (λ (x : View T). Whole x) from (whole_again glue v (length crew) ws whole (λ u t. none u t) (λ k lt. one k lt));
+      }
+    where
+      worker_of : (u : View T) → Has u (map (λ (p : PassOf T). view p) (map (λ (w : Worker T). w.pass) crew)) → (k : ℕ) × (k < length crew) × (u ≡ right cut (lefts k (view base)))
+      worker_of u t =
+          let p = has_unmap (λ (p : PassOf T). view p) u (map (λ (w : Worker T). w.pass) crew) t in
+          let w = has_unmap (λ (w : Worker T). w.pass) p.0 crew p.1 in
+          let place = has_place w.0 crew w.1 in
+          let is = (h.each place.0 w.0 place.1).view_is in
+          (place.0, place.1, p.2 ∙ (ap (λ (q : PassOf T). view q) w.2 ∙ (ap (λ (y : Worker T). view y.pass) (sym place.2) ∙ is)))
+
+      did : (u : View T) → Has u (map (λ (p : PassOf T). view p) (map (λ (w : Worker T). w.pass) crew)) → DidNothing glue (lefts (length crew) (view base)) u
+      did u t =
+          let w = worker_of u t in
+          let a = lefts_stay w.0 (view base) in
+          let b = lefts_stay (length crew) (view base) in
+          record {
+            seen = ap (λ (x : View T). x.seen) w.2 ∙ (a.seen ∙ sym b.seen);
+            known = ap (λ (x : View T). x.known) w.2 ∙ (a.known ∙ sym b.known);
+            made = ap (λ (x : View T). x.made) w.2;
+            probes = ap (λ (x : View T). x.probes) w.2;
+          }
+
+      none : (u : View T) → Has u (map (λ (p : PassOf T). view p) (map (λ (w : Worker T). w.pass) crew)) → u.born ≡ []
+      none u t = ap (λ (x : View T). x.born) (worker_of u t).2
+
+      one : (k : ℕ) → k < length crew → (u : View T) × Has u (map (λ (p : PassOf T). view p) (map (λ (w : Worker T). w.pass) crew)) × Has (given (view base) k) u.numbers
+      one k lt =
+          let p = placed crew k lt in
+          let is = (h.each k p.one lt).view_is in
+          let same : view p.one.pass ≡ right cut (lefts k (view base)) = ap (λ (y : Worker T). view y.pass) (sym (p.here p.one)) ∙ is in (
+            view p.one.pass,
+            has_map (λ (p : PassOf T). view p) p.one.pass (map (λ (w : Worker T). w.pass) crew) (has_map (λ (w : Worker T). w.pass) p.one crew p.there),
+            subst (λ (x : View T). Has (given (view base) k) x.numbers) (sym same) (inl refl),
+          )

@@ -1,0 +1,7 @@
+pub mod Joins
+pub mod Hires
+pub mod Answered
+pub mod Rounds
+pub mod Dealing
+pub mod Mine
+pub mod Running

@@ -1,0 +1,49 @@
+-- What insertions leave of the pass that makes them.
+use Rattle.std.specs.Prelude.{◌≡◌, ◌+◌, ◌≤◌, ◌⊎◌, ℕ, true, List, [], ◌∷◌, ◌++◌, Option, Some, length, slice_get, if◌then◌else◌}
+use Rattle.atomic_table.specs.Seated.{TableId}
+use Rattle.tree_shape.specs.Tree.{Has, IsPart}
+use Rattle.tdb_base.specs.Agrees.{told}
+use Rattle.tdb_base.specs.History.{Vector, calls}
+use Rattle.tdb_base.specs.Legal.{Extends}
+use Rattle.tdb_base.specs.Replies.{is_full}
+use Rattle.tdb_base.specs.declared.reply.Reply.{Reply}
+use Rattle.pair_rule.specs.declared.sizes.About.{About}
+use Rattle.pair_rule.specs.declared.pass.PassOf.{PassOf}
+use Rattle.pair_rule.specs.View.{face}
+use Rattle.pair_rule.specs.Rest.{view, last_vector}
+use Rattle.root_plain.specs.declared.root.Roots.{Roots}
+use Rattle.root_plain.specs.Plays.{Rests}
+use Rattle.tree_store.specs.Store.{NeverNamed}
+use Rattle.tree_store.specs.Vectors.{puts_after}
+use Rattle.work_run.specs.Full.{Barred, IsOfOne}
+
+-- the vector of the last tree after a vector was answered
+abbrev pub last_after : Option Vector → Vector → Reply → Option Vector
+last_after last v reply = if is_full reply then last else Some v
+
+-- the vector of the last tree after some vectors were answered: the last of them that was not full
+abbrev pub last_of : Option Vector → List Vector → List Reply → Option Vector
+last_of last [] replies = last
+last_of last (v ∷ vectors) [] = last
+last_of last (v ∷ vectors) (reply ∷ replies) = last_of (last_after last v reply) vectors replies
+
+-- how many nodes have to be put for some vectors: for each, those that differ from the last vector before it that was not full, or all
+abbrev pub puts_of : About → Option Vector → List Vector → List Reply → ℕ
+puts_of about last [] replies = 0
+puts_of about last (v ∷ vectors) [] = 0
+puts_of about last (v ∷ vectors) (reply ∷ replies) = puts_after about last v + puts_of about (last_after last v reply) vectors replies
+
+-- the pass inserted these vectors, one after the other, and was answered so
+pub record Inserted (table : TableId) (about : About) (vectors : List Vector) (replies : List Reply) (old new : PassOf Roots) : Type 0 where
+  pub one_each : length replies ≡ length vectors
+  pub rest : Rests table about new
+  pub face_is : face (view new) ≡ face (view old)
+  pub seen : Extends (view old).seen (view new).seen
+  pub known : IsPart (view old).known (view new).known
+  pub roots : IsPart (view old).root.roots (view new).root.roots
+  pub own : calls (view new).seen (view old).number ≡ calls (view old).seen (view old).number ++ told (view old).number vectors replies
+  pub never : (i : ℕ) (v : Vector) (reply : Reply) → slice_get vectors i ≡ Some v → slice_get replies i ≡ Some reply → is_full reply ≡ true → NeverNamed table about new v
+  pub barred : (i : ℕ) (v : Vector) (reply : Reply) → slice_get vectors i ≡ Some v → slice_get replies i ≡ Some reply → Barred about (view new).known (view new).root.roots v reply
+  pub made : (index : ℕ) → Has index (view new).made → Has index (view old).made ⊎ IsOfOne about (view new).known vectors index
+  pub last : last_vector new ≡ last_of (last_vector old) vectors replies
+  pub probes : (view new).probes ≤ (view old).probes + puts_of about (last_vector old) vectors replies

@@ -1,0 +1,6 @@
+pub mod Dealing
+pub mod Full
+pub mod Inserted
+pub mod Crew
+pub mod Work
+pub mod Ran

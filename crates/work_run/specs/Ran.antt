@@ -1,0 +1,43 @@
+-- What a run of workers leaves: the replies to a trace's lines, and the pass into which the workers' passes were joined.
+use Rattle.std.specs.Prelude.{◌≡◌, ◌⊎◌, ℕ, List, Some, None, Contains, length, slice_get, map, sum}
+use Rattle.std.specs.List.{range_with_len}
+use Rattle.tree_shape.specs.Tree.{Has}
+use Rattle.tdb_base.specs.Agrees.{AgreesAmongOthers, Agrees}
+use Rattle.tdb_base.specs.History.{Vector}
+use Rattle.tdb_base.specs.Lines.{mine, picked}
+use Rattle.tdb_base.specs.declared.reply.Reply.{Reply}
+use Rattle.pair_rule.specs.declared.view.View.{View}
+use Rattle.pair_rule.specs.declared.sizes.About.{About}
+use Rattle.pair_rule.specs.Rest.{Whole}
+use Rattle.root_plain.specs.declared.root.Roots.{Roots}
+use Rattle.work_run.specs.Full.{Barred, IsOfOne}
+use Rattle.work_run.specs.Inserted.{puts_of}
+
+-- the replies are those of one history, which the pass has then seen: the workers called under these numbers, which the pass has then, and nobody else did if it stands for
+-- all passes
+pub record RanAs (about : About) (trace : List Vector) (replies : List Reply) (workers block : ℕ) (old new : View Roots) (callers : List ℕ) : Type 0 where
+  pub among : AgreesAmongOthers about.flags trace replies workers block old.seen new.seen callers
+  pub joined : (c : ℕ) → Contains callers c → Has c new.numbers
+  pub alone : Whole old → Agrees about.flags trace replies workers block old.seen new.seen callers
+
+abbrev pub OneHistory : About → List Vector → List Reply → (workers block : ℕ) → (old new : View Roots) → Type 0
+OneHistory about trace replies workers block old new = (callers : List ℕ) × RanAs about trace replies workers block old new callers
+
+-- each line that is answered full has a pair for which there is no place, in what the pass knows then
+abbrev pub FullAreBarred : About → List Vector → List Reply → View Roots → Type 0
+FullAreBarred about trace replies new =
+    (i : ℕ) (v : Vector) (reply : Reply) → slice_get trace i ≡ Some v → slice_get replies i ≡ Some reply → Barred about new.known new.root.roots v reply
+
+-- each node that is new to a pass that stands for all is in the tree of a line
+abbrev pub NewNodesAreOfLines : About → List Vector → (old new : View Roots) → Type 0
+NewNodesAreOfLines about trace old new =
+    Whole old → (index pair : ℕ) → Has (index, pair) new.known → ((other : ℕ) × Has (index, other) old.known) ⊎ IsOfOne about new.known trace index
+
+-- how many nodes the lines of one worker have to be put for
+abbrev pub puts_of_worker : About → List Vector → List Reply → (workers block worker : ℕ) → ℕ
+puts_of_worker about trace replies workers block worker =
+    let places = mine (length trace) workers block worker in puts_of about None (picked trace places) (picked replies places)
+
+-- and those of all workers
+abbrev pub puts_of_all : About → List Vector → List Reply → (workers block : ℕ) → ℕ
+puts_of_all about trace replies workers block = sum (map (puts_of_worker about trace replies workers block) (range_with_len 0 workers))

@@ -1,0 +1,61 @@
+//! A worker inserts its lines.
+ghost use Rattle.std.specs.Prelude.{◌≡◌, ◌<◌, ◌≤◌, ◌^◌, All, [], ◌∷◌, length, vec_capacity};
+ghost use Rattle.tdb_base.specs.Lines.{mine, picked};
+ghost use Rattle.root_plain.specs.Plays.{Rests};
+ghost use Rattle.tree_store.specs.Vectors.{IsVector};
+ghost use Rattle.work_run.specs.Inserted.{Inserted};
+
+use crate::lines::{count_of, line_of};
+use crate::worker::Worker;
+use root_plain::Roots;
+use tdb_base::{Gate, Kept, Ledger, Reply, Steps};
+use trace_csv::Trace;
+use tree_store::{PlainPass, PlainStore};
+
+// Inserts a line.
+fn insert_line<L: Ledger, const W: u32, const F: u32>(
+    store: &PlainStore<W, F>,
+    pass: &mut PlainPass<W, F>,
+    line: &[u32],
+    steps: &mut Steps<L>,
+) -> Reply
+    requires rest { Rests store.now.nodes.table.table.shared.table_id store.now.nodes.table.about pass.old }
+    requires vector { IsVector store.now.nodes.table.about line.now }
+    ensures { Inserted store.now.nodes.table.table.shared.table_id store.now.nodes.table.about (line.now ∷ []) (result ∷ []) pass.old pass.new }
+{
+    store.insert_from(pass, line, steps)
+}
+
+/// The worker inserts its lines in rising order, and keeps the replies. The gate is called before and after each line.
+pub(crate) fn insert_mine<G: Gate, const W: u32, const F: u32>(
+    store: &PlainStore<W, F>,
+    trace: &Trace,
+    workers: u64,
+    block: u64,
+    worker: &mut Worker<Roots>,
+    gate: &G,
+)
+    requires lines { length trace.now ≤ 2 ^ 32 }
+    requires fit { All (IsVector store.now.nodes.table.about) trace.now }
+    requires workers { (worker.old.number < workers) × (workers ≤ 64) }
+    requires block { (1 ≤ block) × (block ≤ 65536) }
+    requires rest { Rests store.now.nodes.table.table.shared.table_id store.now.nodes.table.about worker.old.pass }
+    requires replies { worker.old.replies.items ≡ [] }
+    requires room { length (mine (length trace.now) workers block worker.old.number) ≤ vec_capacity worker.old.replies }
+    ensures inserted { Inserted store.now.nodes.table.table.shared.table_id store.now.nodes.table.about (picked trace.now (mine (length trace.now) workers block worker.old.number)) worker.new.replies.items worker.old.pass worker.new.pass }
+    ensures number { worker.new.number ≡ worker.old.number }
+{
+    let lines = trace.len();
+    for n in 0..count_of(lines, workers, block, worker.number) {
+        let Some(i) = line_of(lines, workers, block, worker.number, n) else {
+            unreachable!()
+        };
+        gate.before(worker.number, i + 1);
+        let mut steps = Steps::new(Kept { shown: 0 });
+        let reply = insert_line(store, &mut worker.pass, trace.line(i), &mut steps);
+        let Ok(()) = worker.replies.push(reply) else {
+            unreachable!()
+        };
+        gate.after(worker.number, i + 1, steps.shown());
+    }
+}

@@ -1,0 +1,18 @@
+//! One to 64 worker threads insert the lines of a trace into one store, each with a pass of its own. The lines are cut into blocks of so many lines,
+//! and the blocks are dealt out to the workers in turn.
+#![tactic(auto)]
+
+mod crew;
+mod insert;
+mod lines;
+mod place;
+mod run;
+mod work;
+mod worker;
+
+pub use lines::{line_of, lines_are_dealt_out};
+pub use run::run_lines;
+pub use worker::Worker;
+
+#[cfg(test)]
+mod tests;
