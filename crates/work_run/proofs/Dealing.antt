@@ -1,0 +1,116 @@
+-- A worker's lines as a list.
+use Rattle.std.proofs.Common.{◌≡◌, ◌⊎◌, ◌↔◌, ℕ, zero, suc, ◌+◌, ◌*◌, ◌/◌, ◌%◌, ◌<◌, ◌≤◌, Bool, true, false, cond, List, [], ◌∷◌, ◌++◌, length, map, Option, Some, None, refl, sym, ap, ◌∙◌, subst, ⊎_elim, arith, add-one, append-nil}
+use Rattle.std.specs.Prelude.{◌==◌, option_map, Contains, filter, slice_get, All}
+use Rattle.std.specs.List.{range_with_len}
+use Rattle.std.proofs.lemmas.Bool.{cases_eq, cases_lt, eq-eqb, ne_eqb, eqb-true}
+use Rattle.std.proofs.lemmas.Nat.{mod_below}
+use Rattle.std.proofs.lemmas.List.Elements.{All-contains, All-filter, filter_passes}
+use Rattle.std.proofs.lemmas.List.FromFn.{length-map-range_with_len, map-range_with_len_more, get_or-range_with_len, length-range_with_len}
+use Rattle.std.proofs.lemmas.Option.{slice_get-map, slice_get_past}
+use Rattle.tdb_base.specs.Lines.{mine}
+use Rattle.tdb_base.proofs.ListLemmas.{at-range, at-filter}
+use Rattle.tdb_base.proofs.DistinctLemmas.{mine-more}
+use Rattle.tdb_base.proofs.TallyLemmas.{contained-at}
+use Rattle.work_run.specs.Dealing.{WithinTheTrace, OneWorkerEach, EachLineOnce, OneWorkerHasAll}
+use Rattle.work_run.proofs.Rounds.{line_at, share, share_none, share_more, share_kept, line_of_share, line_of_number, number_small, share_above, share_below}
+
+module _ (workers block worker : ℕ) (some : 0 < block) (among : worker < workers) where
+  numbered : ℕ → List ℕ
+  numbered n = map (line_at workers block worker) (range_with_len 0 n)
+
+  step : (i : ℕ) → mine i workers block worker ≡ numbered (share workers block worker i)
+      → mine (i + 1) workers block worker ≡ numbered (share workers block worker (i + 1))
+  unfolding numbered
+  step i so_far = ⊎_elim
+      (λ (own : i / block % workers ≡ worker).
+      mine-more i workers block worker
+      ∙ ap (λ (t : Bool). mine i workers block worker ++ cond t (i ∷ []) []) (eq-eqb (i / block % workers) worker own)
+      ∙ ap (λ (xs : List ℕ). xs ++ i ∷ []) so_far
+      ∙ ap (λ (n : ℕ). numbered (share workers block worker i) ++ n ∷ []) (sym (line_of_share workers block worker some among i own))
+      ∙ sym (map-range_with_len_more (line_at workers block worker) 0 (share workers block worker i) (share workers block worker i) (omega arith))
+      ∙ ap numbered (sym (share_more workers block worker some among i own)))
+      (λ (other : i / block % workers ≡ worker → ⊥).
+      mine-more i workers block worker
+      ∙ ap (λ (t : Bool). mine i workers block worker ++ cond t (i ∷ []) []) (ne_eqb (i / block % workers) worker other)
+      ∙ append-nil (mine i workers block worker)
+      ∙ so_far
+      ∙ ap numbered (sym (share_kept workers block worker some among i other)))
+      (cases_eq (i / block % workers) worker)
+
+  -- a worker's lines are those that its numbers stand for
+  by_numbers : (lines : ℕ) → mine lines workers block worker ≡ numbered (share workers block worker lines)
+  unfolding numbered
+  by_numbers zero = ap numbered (sym (share_none workers block worker some among))
+  by_numbers (suc i) =
+      subst (λ (n : ℕ). mine n workers block worker ≡ numbered (share workers block worker n)) (add-one i) (step i (by_numbers i))
+
+  pub mine-numbers : (lines : ℕ) → mine lines workers block worker ≡ map (line_at workers block worker) (range_with_len 0 (share workers block worker lines))
+  unfolding numbered
+  mine-numbers lines = by_numbers lines
+
+  pub mine-length : (lines : ℕ) → length (mine lines workers block worker) ≡ share workers block worker lines
+  mine-length lines =
+      ap length (mine-numbers lines) ∙ length-map-range_with_len (line_at workers block worker) 0 (share workers block worker lines)
+
+  -- the line with a number, and the end of a worker's lines
+  pub mine-at : (lines n : ℕ) → line_at workers block worker n < lines
+      → slice_get (mine lines workers block worker) n ≡ Some (line_at workers block worker n)
+  mine-at lines n below =
+      let inside = share_above workers block worker some among n lines below in
+      ap (λ (xs : List ℕ). slice_get xs n) (mine-numbers lines)
+      ∙ slice_get-map (line_at workers block worker) (range_with_len 0 (share workers block worker lines)) n
+      ∙ ap (option_map (line_at workers block worker)) (at-range 0 (share workers block worker lines) n inside)
+      ∙ ap (λ (k : ℕ). Some (line_at workers block worker k)) (omega arith)
+
+  pub mine-longer : (lines n : ℕ) → line_at workers block worker n < lines → n < length (mine lines workers block worker)
+  mine-longer lines n below = omega (arith, mine-length lines, share_above workers block worker some among n lines below)
+
+  pub mine-ends : (lines n : ℕ) → lines ≤ line_at workers block worker n → length (mine lines workers block worker) ≤ n
+  mine-ends lines n past = omega (arith, mine-length lines, share_below workers block worker some among n lines past)
+
+  pub mine-past : (lines n : ℕ) → lines ≤ line_at workers block worker n → slice_get (mine lines workers block worker) n ≡ None
+  mine-past lines n past = slice_get_past (mine lines workers block worker) n (mine-ends lines n past)
+
+-- a line is found under its worker and its number
+pub mine-turn : (lines workers block i : ℕ) → 0 < workers → 0 < block → i < lines
+    → slice_get (mine lines workers block (i / block % workers)) (i / (block * workers) * block + i % block) ≡ Some i
+mine-turn lines workers block i any some below =
+    let worker : ℕ = i / block % workers in
+    let among = mod_below (i / block) workers any in
+    let line = line_of_number workers block worker some among i refl in
+    mine-at workers block worker some among lines (i / (block * workers) * block + i % block) (omega arith) ∙ ap Some line
+
+pub turn-small : (workers block i : ℕ) → 0 < workers → 0 < block → i / (block * workers) * block + i % block ≤ i
+turn-small workers block i any some = number_small workers block (i / block % workers) some (mod_below (i / block) workers any) i refl
+
+pub within-the-trace : WithinTheTrace
+within-the-trace lines workers block worker i there =
+    All-contains (λ (n : ℕ). n < lines) (mine lines workers block worker) i
+    (All-filter (λ (n : ℕ). n / block % workers == worker) (λ (n : ℕ). n < lines) (range_with_len 0 lines)
+    (λ k d inside. omega (arith, get_or-range_with_len 0 lines k d (omega (arith, length-range_with_len 0 lines)), length-range_with_len 0 lines)))
+    there
+
+pub worker-of-line : (lines workers block worker i : ℕ) → Contains (mine lines workers block worker) i → i / block % workers ≡ worker
+worker-of-line lines workers block worker i there =
+    let own : ℕ → Bool = λ n. n / block % workers == worker in
+    eqb-true (i / block % workers) worker (All-contains (λ (n : ℕ). own n ≡ true) (mine lines workers block worker) i (filter_passes own (range_with_len 0 lines)) there)
+
+pub one-worker-each : OneWorkerEach
+one-worker-each lines workers block one other i first second =
+    sym (worker-of-line lines workers block one i first) ∙ worker-of-line lines workers block other i second
+
+pub each-line-once : EachLineOnce
+each-line-once lines workers block i any below =
+    let own : ℕ → Bool = λ n. n / block % workers == i / block % workers in (
+      mod_below (i / block) workers any,
+      contained-at (mine lines workers block (i / block % workers)) i
+          (at-filter own (range_with_len 0 lines) i i (at-range 0 lines i below ∙ ap Some (omega arith)) (eq-eqb (i / block % workers) (i / block % workers) refl)),
+    )
+
+keeps-all : (p : ℕ → Bool) (xs : List ℕ) → ((x : ℕ) → p x ≡ true) → filter p xs ≡ xs
+keeps-all p [] h = refl
+keeps-all p (x ∷ xs) h = rw (h x, keeps-all p xs h) refl
+
+pub one-worker-has-all : OneWorkerHasAll
+one-worker-has-all lines block =
+    keeps-all (λ (i : ℕ). i / block % 1 == 0) (range_with_len 0 lines) (λ i. eq-eqb (i / block % 1) 0 (omega arith))

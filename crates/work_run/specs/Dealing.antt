@@ -1,0 +1,24 @@
+-- The laws of dealing a trace's lines out to workers.
+use Rattle.std.specs.Prelude.{◌≡◌, ◌<◌, ◌/◌, ◌%◌, ℕ, Contains}
+use Rattle.std.specs.List.{range_with_len}
+use Rattle.tdb_base.specs.Lines.{mine}
+
+-- a worker's lines are lines of the trace
+abbrev pub WithinTheTrace : Type 0
+WithinTheTrace = (lines workers block worker i : ℕ) → Contains (mine lines workers block worker) i → i < lines
+
+-- no line is the line of two workers
+abbrev pub OneWorkerEach : Type 0
+OneWorkerEach =
+    (lines workers block one other i : ℕ) → Contains (mine lines workers block one) i → Contains (mine lines workers block other) i
+    → one ≡ other
+
+-- each line is a worker's: the blocks' numbers go round over the workers
+abbrev pub EachLineOnce : Type 0
+EachLineOnce =
+    (lines workers block i : ℕ) → 0 < workers → i < lines
+    → (i / block % workers < workers) × Contains (mine lines workers block (i / block % workers)) i
+
+-- a worker alone has all lines, in order
+abbrev pub OneWorkerHasAll : Type 0
+OneWorkerHasAll = (lines block : ℕ) → mine lines 1 block 0 ≡ range_with_len 0 lines

@@ -1,0 +1,63 @@
+//! Which lines are a worker's. A trace's lines are numbered from 0 and cut into blocks; of `n` workers, worker `j` has the blocks
+//! `j`, `j + n`, `j + 2n` and so on.
+
+ghost use Rattle.std.specs.Prelude.{◌≡◌, ℕ, ◌<◌, ◌≤◌, ◌^◌, ◌↔◌, Some, None, length};
+ghost use Rattle.std.specs.List.{slice_get};
+ghost use Rattle.tdb_base.specs.Lines.{mine};
+ghost use Rattle.work_run.specs.Dealing.{EachLineOnce, OneWorkerEach, OneWorkerHasAll, WithinTheTrace};
+
+/// The number of a worker's line, where `n` counts that worker's lines from 0: `None` where it has no more than `n` lines.
+///
+/// Of 1 to 64 workers it is number `worker`, from 0. There are at most `2^32` lines, and 1 to 65536 in a block.
+pub fn line_of(lines: u64, workers: u64, block: u64, worker: u64, n: u64) -> Option<u64>
+    requires workers { (worker < workers) × (workers ≤ 64) }
+    requires block { (1 ≤ block) × (block ≤ 65536) }
+    requires few { (lines ≤ 2 ^ 32) × (n ≤ 2 ^ 32) }
+    ensures line { result ≡ slice_get (mine lines workers block worker) n }
+    ensures none { (result ≡ None) ↔ (length (mine lines workers block worker) ≤ n) }
+{
+    let line = (n / block) * (block * workers) + worker * block + n % block;
+    if line < lines { Some(line) } else { None }
+}
+
+/// How many lines a worker has.
+pub(crate) fn count_of(lines: u64, workers: u64, block: u64, worker: u64) -> u64
+    requires workers { (worker < workers) × (workers ≤ 64) }
+    requires block { (1 ≤ block) × (block ≤ 65536) }
+    requires few { lines ≤ 2 ^ 32 }
+    ensures { result ≡ length (mine lines workers block worker) }
+{
+    let round = block * workers;
+    let rest = (lines % round).saturating_sub(worker * block);
+    lines / round * block + rest.min(block)
+}
+
+/// Whose line a line is, and which of that worker's lines, both from 0.
+#[derive(Clone, Copy, Debug, PartialEq, Eq)]
+pub(crate) struct Turn {
+    pub(crate) worker: u64,
+    pub(crate) number: u64,
+}
+
+/// The turn of line `i`.
+pub(crate) fn turn_of(i: u64, workers: u64, block: u64) -> Turn
+    requires workers { (1 ≤ workers) × (workers ≤ 64) }
+    requires block { (1 ≤ block) × (block ≤ 65536) }
+    ensures worker { result.worker < workers }
+    ensures line { (lines : ℕ) → i < lines
+        → slice_get (mine lines workers block result.worker) result.number ≡ Some i }
+{
+    Turn {
+        worker: i / block % workers,
+        number: i / (block * workers) * block + i % block,
+    }
+}
+
+/// The lines of a trace are dealt out to its workers: each worker's are lines of the trace, no line has two workers, each line has one, and a
+/// worker alone has all lines in order.
+pub fn lines_are_dealt_out()
+    ensures within_the_trace { WithinTheTrace }
+    ensures one_worker_each { OneWorkerEach }
+    ensures each_line_once { EachLineOnce }
+    ensures one_worker_has_all { OneWorkerHasAll }
+{}
