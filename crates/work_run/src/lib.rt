@@ -2,6 +2,7 @@
 #![tactic(auto)]
 
 mod lines;
+mod turns;
 
 pub use lines::{line_of, lines_are_dealt_out};
 
