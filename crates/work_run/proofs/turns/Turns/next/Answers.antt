@@ -1,5 +1,4 @@
-use Rattle.std.proofs.Common.{◌≡◌, ◌∷◌, [], ◌∙◌, refl, sym, ap, arith, List, ℕ}
-use Rattle.work_run.specs.ToCome.{lines_to_come}
+use Rattle.std.proofs.Common.{◌∙◌, refl, sym}
 use Rattle.work_run.proofs.Stepping.{none_to_come, one_to_come, last_to_come}
 use Rattle.work_run.proofs.turns.Turns.next.Goals as goal
 
