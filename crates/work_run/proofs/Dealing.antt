@@ -1,5 +1,5 @@
 -- A worker's lines as a list.
-use Rattle.std.proofs.Common.{◌≡◌, ℕ, zero, suc, ◌+◌, ◌*◌, ◌/◌, ◌%◌, ◌<◌, ◌≤◌, Bool, true, cond, List, [], ◌∷◌, ◌++◌, length, map, Some, None, refl, sym, ap, ◌∙◌, subst, ⊎_elim, arith, add-one, append-nil}
+use Rattle.std.proofs.Common.{◌≡◌, ℕ, zero, suc, ◌+◌, ◌*◌, ◌/◌, ◌%◌, ◌<◌, ◌≤◌, Bool, true, false, cond, List, [], ◌∷◌, ◌++◌, length, map, drop, Some, None, refl, sym, ap, ◌∙◌, subst, ⊎_elim, arith, add-one, append-nil}
 use Rattle.std.specs.Prelude.{◌==◌, option_map, Contains, filter, slice_get}
 use Rattle.std.specs.List.{range_with_len}
 use Rattle.std.proofs.lemmas.Bool.{cases_eq, eq-eqb, ne_eqb, eqb-true}
@@ -11,7 +11,7 @@ use Rattle.tdb_base.specs.Lines.{mine}
 use Rattle.tdb_base.proofs.ListLemmas.{at-range, at-filter}
 use Rattle.tdb_base.proofs.DistinctLemmas.{mine-more}
 use Rattle.tdb_base.proofs.TallyLemmas.{contained-at}
-use Rattle.work_run.specs.Dealing.{WithinTheTrace, OneWorkerEach, EachLineOnce, OneWorkerHasAll}
+use Rattle.work_run.specs.Dealing.{WithinTheTrace, OneWorkerEach, OneTurnEach, EachHasAWorker, OneWorkerHasAll}
 use Rattle.work_run.proofs.Rounds.{line_at, share, share_none, share_more, share_kept, line_of_share, line_of_number, number_small, share_above, share_below}
 
 module _ (workers block worker : ℕ) (some : 0 < block) (among : worker < workers) where
@@ -99,13 +99,67 @@ pub one-worker-each : OneWorkerEach
 one-worker-each lines workers block one other i first second =
     sym (worker-of-line lines workers block one i first) ∙ worker-of-line lines workers block other i second
 
-pub each-line-once : EachLineOnce
-each-line-once lines workers block i any below =
+pub each-has-a-worker : EachHasAWorker
+each-has-a-worker lines workers block i any below =
     let own : ℕ → Bool = λ n. n / block % workers == i / block % workers in (
       mod_below (i / block) workers any,
       contained-at (mine lines workers block (i / block % workers)) i
           (at-filter own (range_with_len 0 lines) i i (at-range 0 lines i below ∙ ap Some (omega arith)) (eq-eqb (i / block % workers) (i / block % workers) refl)),
     )
+
+-- a filter keeps no number of a range twice
+kept_above : (p : ℕ → Bool) (from n k i : ℕ) → slice_get (filter p (range_with_len from n)) k ≡ Some i → from ≤ i
+kept_above p from zero k i e = cc e
+kept_above p from (suc n) k i e = by (p from) (filter p (range_with_len (from + 1) n)) k (λ m at. kept_above p (from + 1) n m i at) e
+  where
+    by : (b : Bool) (rest : List ℕ) (k : ℕ) → ((m : ℕ) → slice_get rest m ≡ Some i → from + 1 ≤ i) → slice_get (cond b (from ∷ rest) rest) k ≡ Some i → from ≤ i
+    by true rest zero more e = let same : from ≡ i = cc e in omega arith
+    by true rest (suc k) more e = omega (arith, more k e)
+    by false rest k more e = omega (arith, more k e)
+
+kept_once : (p : ℕ → Bool) (from n k m i : ℕ) → slice_get (filter p (range_with_len from n)) k ≡ Some i
+    → slice_get (filter p (range_with_len from n)) m ≡ Some i → k ≡ m
+kept_once p from zero k m i first second = cc first
+kept_once p from (suc n) k m i first second =
+    by (p from) (filter p (range_with_len (from + 1) n)) k m (λ j at. kept_above p (from + 1) n j i at) (λ j l a b. kept_once p (from + 1) n j l i a b) first second
+  where
+    by : (b : Bool) (rest : List ℕ) (k m : ℕ) → ((j : ℕ) → slice_get rest j ≡ Some i → from + 1 ≤ i)
+        → ((j l : ℕ) → slice_get rest j ≡ Some i → slice_get rest l ≡ Some i → j ≡ l)
+        → slice_get (cond b (from ∷ rest) rest) k ≡ Some i → slice_get (cond b (from ∷ rest) rest) m ≡ Some i → k ≡ m
+    by true rest zero zero above once first second = refl
+    by true rest zero (suc m) above once first second = let same : from ≡ i = cc first in absurd (omega (arith, above m second))
+    by true rest (suc k) zero above once first second = let same : from ≡ i = cc second in absurd (omega (arith, above k first))
+    by true rest (suc k) (suc m) above once first second = ap suc (once k m first second)
+    by false rest k m above once first second = once k m first second
+
+pub one-turn-each : OneTurnEach
+one-turn-each lines workers block worker n m i first second = kept_once (λ j. j / block % workers == worker) 0 lines n m i first second
+
+-- the turn of a line
+pub mine-inside : (lines workers block worker n i : ℕ) → slice_get (mine lines workers block worker) n ≡ Some i → i < lines
+mine-inside lines workers block worker n i at = within-the-trace lines workers block worker i (contained-at (mine lines workers block worker) i (n, at))
+
+pub same-turn : (lines workers block one other n m i : ℕ) → slice_get (mine lines workers block one) n ≡ Some i
+    → slice_get (mine lines workers block other) m ≡ Some i → (one ≡ other) × (n ≡ m)
+same-turn lines workers block one other n m i first second =
+    let same : one ≡ other = one-worker-each lines workers block one other i
+    (contained-at (mine lines workers block one) i (n, first)) (contained-at (mine lines workers block other) i (m, second)) in (
+      same,
+      one-turn-each lines workers block other n m i
+          (subst (λ (j : ℕ). slice_get (mine lines workers block j) n ≡ Some i) same first) second,
+    )
+
+-- a list's elements taken from its front, one by one
+pub taken-one : {A : Type 0} (xs rest : List A) (k : ℕ) (x : A) → drop k xs ≡ x ∷ rest → (slice_get xs k ≡ Some x) × (drop (suc k) xs ≡ rest)
+taken-one [] rest zero x e = cc e
+taken-one [] rest (suc k) x e = cc e
+taken-one (y ∷ xs) rest zero x e = (let same : y ≡ x = cc e in ap Some same, cc e)
+taken-one (y ∷ xs) rest (suc k) x e = taken-one xs rest k x e
+
+pub taken-all : {A : Type 0} (xs : List A) (k : ℕ) → drop k xs ≡ [] → length xs ≤ k
+taken-all [] k e = omega arith
+taken-all (y ∷ xs) zero e = cc e
+taken-all (y ∷ xs) (suc k) e = omega (arith, taken-all xs k e)
 
 keeps-all : (p : ℕ → Bool) (xs : List ℕ) → ((x : ℕ) → p x ≡ true) → filter p xs ≡ xs
 keeps-all p [] h = refl

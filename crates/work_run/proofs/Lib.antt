@@ -1,7 +1,8 @@
+pub mod Rounds
+pub mod Dealing
+pub mod Stepping
+pub mod Mine
 pub mod Joins
 pub mod Hires
 pub mod Answered
-pub mod Rounds
-pub mod Dealing
-pub mod Mine
 pub mod Running

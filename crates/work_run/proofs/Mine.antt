@@ -1,19 +1,17 @@
 -- The lines of one worker among those of a trace.
-use Rattle.std.proofs.Common.{◌≡◌, ◌<◌, ◌≤◌, ◌+◌, ℕ, zero, suc, Bool, true, false, cond, List, [], ◌∷◌, ◌++◌, length, take, Option, Some, None, refl, sym, ap, ◌∙◌, subst, inl, inr, ⊎_elim, arith}
+use Rattle.std.proofs.Common.{◌≡◌, ◌<◌, ◌≤◌, ◌+◌, ℕ, zero, suc, Bool, true, false, cond, List, [], ◌∷◌, ◌++◌, length, Option, Some, None, refl, sym, ap, ◌∙◌, subst, inl, inr, ⊎_elim, arith}
 use Rattle.std.specs.Prelude.{◌==◌, ◌/◌, ◌%◌, All, filter, slice_get}
 use Rattle.std.specs.List.{cons_option, range_with_len}
-use Rattle.std.proofs.lemmas.List.{take_more}
 use Rattle.std.proofs.lemmas.List.FromFn.{length-range_with_len}
 use Rattle.std.proofs.lemmas.List.Elements.{All-cons, All-get_or, All-head, All-nil, All-tail, All-weaker}
 use Rattle.std.proofs.lemmas.List.Sums.{length-filter, count_by-le-length}
 use Rattle.std.proofs.lemmas.Option.{get_or_from_slice_get, slice_get_within}
 use Rattle.tree_shape.specs.Tree.{Has}
-use Rattle.tdb_base.specs.History.{Vector}
 use Rattle.tdb_base.proofs.ListLemmas.{at-left, at-within}
 use Rattle.tdb_base.specs.Lines.{mine, picked}
 use Rattle.tdb_base.proofs.TallyLemmas.{contained-at}
 use Rattle.work_run.proofs.Dealing.{one-worker-each}
-use Rattle.tdb_base.proofs.PickLemmas.{mine_below, picked_push}
+use Rattle.tdb_base.proofs.PickLemmas.{mine_below}
 
 -- a fact of each element is a fact of the one at a place
 pub all_at : {A : Type 0} (P : A → Type 0) (xs : List A) (i : ℕ) (x : A) → All P xs → slice_get xs i ≡ Some x → P x
@@ -29,13 +27,15 @@ mine_few lines workers block worker =
 pub mine_within : (lines workers block worker n i : ℕ) → slice_get (mine lines workers block worker) n ≡ Some i → i < lines
 mine_within lines workers block worker n i at = all_at (λ (k : ℕ). k < lines) (mine lines workers block worker) n i (mine_below lines workers block worker) at
 
--- one more of the first elements
-pub take_push : {A : Type 0} (xs : List A) (n : ℕ) (x : A) → slice_get xs n ≡ Some x → take (n + 1) xs ≡ take n xs ++ x ∷ []
-take_push xs n x at = take_more xs n x (slice_get_within xs n x at) ∙ ap (λ y. take n xs ++ y ∷ []) (get_or_from_slice_get xs n x x at)
+-- the element behind others
+pub at_middle : {A : Type 0} (xs ys : List A) (x : A) → slice_get (xs ++ x ∷ ys) (length xs) ≡ Some x
+at_middle [] ys x = refl
+at_middle (y ∷ xs) ys x = at_middle xs ys x
 
--- the lines at a worker's places, when it comes to one more
-pub picked_next : (trace : List Vector) (places : List ℕ) (n i : ℕ) (v : Vector) → slice_get places n ≡ Some i → slice_get trace i ≡ Some v → picked trace (take (n + 1) places) ≡ picked trace (take n places) ++ v ∷ []
-picked_next trace places n i v at line = ap (λ (t : List ℕ). picked trace t) (take_push places n i at) ∙ picked_push trace (take n places) i v line
+-- the line that a worker takes next
+pub next_within : (lines workers block worker i : ℕ) (done rest : List ℕ) → mine lines workers block worker ≡ done ++ i ∷ rest → i < lines
+next_within lines workers block worker i done rest whole =
+    mine_within lines workers block worker (length done) i (ap (λ (xs : List ℕ). slice_get xs (length done)) whole ∙ at_middle done rest i)
 
 -- a number that passes a test is in a range once
 rising : (p : ℕ → Bool) (from count : ℕ) → All (λ k. from ≤ k) (filter p (range_with_len from count))
@@ -87,8 +87,7 @@ pub at_front : {A : Type 0} (xs ys : List A) (k : ℕ) → k < length xs → sli
 at_front xs ys k lt = let x = at-within xs k lt in at-left xs ys x.0 k x.1 ∙ sym x.1
 
 pub at_end : {A : Type 0} (xs : List A) (x : A) → slice_get (xs ++ x ∷ []) (length xs) ≡ Some x
-at_end [] x = refl
-at_end (y ∷ ys) x = at_end ys x
+at_end xs x = at_middle xs [] x
 
 -- what is picked at a place
 pub picked_at : {A : Type 0} (xs : List A) (places : List ℕ) (n k : ℕ) (x : A) → All (λ i. i < length xs) places → slice_get places n ≡ Some k → slice_get xs k ≡ Some x → slice_get (picked xs places) n ≡ Some x

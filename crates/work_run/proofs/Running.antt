@@ -3,6 +3,7 @@ use Rattle.std.proofs.Common.{◌≡◌, ◌⊎◌, ℕ, zero, suc, ◌+◌, ◌
 use Rattle.std.specs.Prelude.{◌==◌, All, Contains, slice_get, sum}
 use Rattle.std.specs.List.{filter_map, range_with_len}
 use Rattle.std.proofs.lemmas.Bool.{cases_eq}
+use Rattle.std.proofs.lemmas.Nat.{mod_below}
 use Rattle.std.proofs.lemmas.List.FromFn.{length-map-range_with_len}
 use Rattle.std.proofs.lemmas.List.{get_or-map, length-map}
 use Rattle.std.proofs.lemmas.List.Sums.{sum_by-cons}
@@ -36,7 +37,7 @@ use Rattle.work_run.specs.Inserted.{puts_of, Inserted}
 use Rattle.work_run.specs.Work.{HasAnswered}
 use Rattle.work_run.specs.Ran.{OneHistory, FullAreBarred, NewNodesAreOfLines, puts_of_worker, puts_of_all}
 use Rattle.work_run.proofs.Answered.{barred_more, of_one_more}
-use Rattle.work_run.proofs.Dealing.{each-line-once, mine-turn}
+use Rattle.work_run.proofs.Dealing.{mine-turn}
 use Rattle.work_run.proofs.Hires.{given, lefts_stay, placed, has_unmap, has_place, whole_again}
 use Rattle.work_run.proofs.Joins.{has_map, numbers_other}
 use Rattle.work_run.proofs.Mine.{picked_at, picked_has}
@@ -252,7 +253,7 @@ module _ (table : TableId) (about : About) (cut : Roots → Roots) (glue : Roots
       let below = mine_below (length trace) workers block j in
       record {
         worker = j;
-        among = (each-line-once (length trace) workers block i some lt).0;
+        among = mod_below (i / block) workers some;
         number = i / (block * workers) * block + i % block;
         line = picked_at trace (lines_of j) (i / (block * workers) * block + i % block) i v below at a;
         answer = picked_at replies (lines_of j) (i / (block * workers) * block + i % block) i reply (subst (λ (n : ℕ). All (λ k. k < n) (lines_of j)) (sym one_each) below) at b;

@@ -1,6 +1,6 @@
 -- The laws of dealing a trace's lines out to workers.
-use Rattle.std.specs.Prelude.{◌≡◌, ◌<◌, ◌/◌, ◌%◌, ℕ, Contains}
-use Rattle.std.specs.List.{range_with_len}
+use Rattle.std.specs.Prelude.{◌≡◌, ◌<◌, ◌/◌, ◌%◌, ℕ, Some, Contains}
+use Rattle.std.specs.List.{range_with_len, slice_get}
 use Rattle.tdb_base.specs.Lines.{mine}
 
 -- a worker's lines are lines of the trace
@@ -13,9 +13,15 @@ OneWorkerEach =
     (lines workers block one other i : ℕ) → Contains (mine lines workers block one) i → Contains (mine lines workers block other) i
     → one ≡ other
 
+-- no worker has a line twice
+abbrev pub OneTurnEach : Type 0
+OneTurnEach =
+    (lines workers block worker n m i : ℕ) → slice_get (mine lines workers block worker) n ≡ Some i
+    → slice_get (mine lines workers block worker) m ≡ Some i → n ≡ m
+
 -- each line is a worker's: the blocks' numbers go round over the workers
-abbrev pub EachLineOnce : Type 0
-EachLineOnce =
+abbrev pub EachHasAWorker : Type 0
+EachHasAWorker =
     (lines workers block i : ℕ) → 0 < workers → i < lines
     → (i / block % workers < workers) × Contains (mine lines workers block (i / block % workers)) i
 

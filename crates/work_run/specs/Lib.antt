@@ -1,4 +1,5 @@
 pub mod Dealing
+pub mod ToCome
 pub mod Full
 pub mod Inserted
 pub mod Crew

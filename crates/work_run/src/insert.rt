@@ -5,7 +5,7 @@ ghost use Rattle.root_plain.specs.Plays.{Rests};
 ghost use Rattle.tree_store.specs.Vectors.{IsVector};
 ghost use Rattle.work_run.specs.Inserted.{Inserted};
 
-use crate::lines::{count_of, line_of};
+use crate::turns::Turns;
 use crate::worker::Worker;
 use root_plain::Roots;
 use tdb_base::{Gate, Kept, Ledger, Reply, Steps};
@@ -45,11 +45,8 @@ pub(crate) fn insert_mine<G: Gate, const W: u32, const F: u32>(
     ensures inserted { Inserted store.now.nodes.table.table.shared.table_id store.now.nodes.table.about (picked trace.now (mine (length trace.now) workers block worker.old.number)) worker.new.replies.items worker.old.pass worker.new.pass }
     ensures number { worker.new.number ≡ worker.old.number }
 {
-    let lines = trace.len();
-    for n in 0..count_of(lines, workers, block, worker.number) {
-        let Some(i) = line_of(lines, workers, block, worker.number, n) else {
-            unreachable!()
-        };
+    let mut turns = Turns::new(trace.len(), workers, block, worker.number);
+    while let Some(i) = turns.next() {
         gate.before(worker.number, i + 1);
         let mut steps = Steps::new(Kept { shown: 0 });
         let reply = insert_line(store, &mut worker.pass, trace.line(i), &mut steps);

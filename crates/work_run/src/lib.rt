@@ -7,6 +7,7 @@ mod insert;
 mod lines;
 mod place;
 mod run;
+mod turns;
 mod work;
 mod worker;
 

@@ -4,7 +4,7 @@
 ghost use Rattle.std.specs.Prelude.{◌≡◌, ℕ, ◌<◌, ◌≤◌, ◌^◌, ◌↔◌, Some, None, length};
 ghost use Rattle.std.specs.List.{slice_get};
 ghost use Rattle.tdb_base.specs.Lines.{mine};
-ghost use Rattle.work_run.specs.Dealing.{EachLineOnce, OneWorkerEach, OneWorkerHasAll, WithinTheTrace};
+ghost use Rattle.work_run.specs.Dealing.{WithinTheTrace, OneWorkerEach, OneTurnEach, EachHasAWorker, OneWorkerHasAll};
 
 /// The number of a worker's line, where `n` counts that worker's lines from 0: `None` where it has no more than `n` lines.
 ///
@@ -53,11 +53,12 @@ pub(crate) fn turn_of(i: u64, workers: u64, block: u64) -> Turn
     }
 }
 
-/// The lines of a trace are dealt out to its workers: each worker's are lines of the trace, no line has two workers, each line has one, and a
-/// worker alone has all lines in order.
+/// The lines of a trace are dealt out to its workers: each worker's are lines of the trace, no line has two workers or comes twice, each line
+/// has a worker, and a worker alone has all lines in order.
 pub fn lines_are_dealt_out()
     ensures within_the_trace { WithinTheTrace }
     ensures one_worker_each { OneWorkerEach }
-    ensures each_line_once { EachLineOnce }
+    ensures one_turn_each { OneTurnEach }
+    ensures each_has_a_worker { EachHasAWorker }
     ensures one_worker_has_all { OneWorkerHasAll }
 {}

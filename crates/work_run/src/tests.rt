@@ -1,6 +1,7 @@
 // The lines of workers against the definition, tried line by line.
 use super::line_of;
 use super::lines::{Turn, count_of, turn_of};
+use super::turns::Turns;
 use std::process::Abort;
 
 // Tries all lines of all workers, and that each worker has no more.
@@ -9,15 +10,19 @@ fn expect_dealt(rt: &impl Abort, lines: u64, workers: u64, block: u64) {
     assert!(rt; 1 <= workers && workers <= 64);
     assert!(rt; 1 <= block && block <= 65536);
     for worker in 0..workers {
+        let mut turns = Turns::new(lines, workers, block, worker);
         let mut number = 0;
         for i in 0..lines {
             if i / block % workers == worker {
                 assert!(rt; number <= i);
                 assert_eq!(rt; line_of(lines, workers, block, worker, number), Some(i));
                 assert!(rt; turn_of(i, workers, block) == Turn { worker, number });
+                assert_eq!(rt; turns.next(), Some(i));
                 number += 1;
             }
         }
+        assert_eq!(rt; turns.next(), None);
+        assert_eq!(rt; turns.next(), None);
         assert!(rt; number <= lines);
         assert_eq!(rt; line_of(lines, workers, block, worker, number), None);
         assert_eq!(rt; line_of(lines, workers, block, worker, 4_294_967_296), None);
