@@ -2,7 +2,12 @@ pub mod EachLemmas
 pub mod FieldLemmas
 pub mod InputLemmas
 pub mod OutputLemmas
+pub mod PageLemmas
 pub mod PiecesLemmas
 pub mod ReportLemmas
 pub mod RowLemmas
+pub mod SortLemmas
+pub mod SortedLemmas
 pub mod TraceLemmas
+pub mod VectorsLemmas
+pub mod WalkLemmas

@@ -1,7 +1,11 @@
 pub mod Fields
 pub mod Input
 pub mod Output
+pub mod Page
 pub mod Pieces
 pub mod Report
 pub mod Rows
+pub mod Sorted
 pub mod Trace
+pub mod Vectors
+pub mod Walk

@@ -6,18 +6,26 @@
 
 mod field;
 mod input;
+pub mod laws;
+mod output;
+mod page;
 mod read;
 mod refusal;
 mod report;
 mod rows;
 mod short_text;
 mod trace;
+mod vectors;
+mod walk;
 
 pub use input::{InError, read_all};
+pub use output::WriteFault;
 pub use read::read_trace;
 pub use refusal::TraceError;
-pub use report::{Stats, Summary, WriteFault, write_report, write_summary};
+pub use report::{Stats, Summary, write_report, write_summary};
 pub use trace::Trace;
+pub use vectors::write_vectors;
+pub use walk::generate;
 
 #[cfg(test)]
 mod tests;

@@ -1,6 +1,6 @@
 use crate::{
-    InError, Stats, Summary, TraceError, WriteFault, read_all, read_trace, write_report,
-    write_summary,
+    InError, Stats, Summary, TraceError, WriteFault, generate, read_all, read_trace, write_report,
+    write_summary, write_vectors,
 };
 use std::alloc::Global;
 use std::process::Abort;
@@ -160,5 +160,98 @@ fn reports_are_written(rt: HostRuntime) -> Result<(), Fail> {
     let mut sink = MemSink::new(alloc, 1000, vec![in alloc; 2u64]?, 4)?;
     assert!(rt; write_report(&replies, &summary, &mut sink) == Err(WriteFault));
     assert_eq!(rt; sink.bytes(), b"1,80".as_slice());
+    Ok(())
+}
+
+// The numbers of all lines of a drawn trace.
+fn drawn(
+    rt: &impl Abort,
+    alloc: Global,
+    lines: u64,
+    slots: usize,
+    values: u64,
+    seed: u64,
+) -> Result<Vec<u32>, Fail> {
+    assert!(rt; 1 <= lines && lines <= 1000 && 2 <= slots && slots <= 16);
+    assert!(rt; 1 <= values && values <= 65536);
+    let trace = generate(alloc, lines, slots, values, seed)?;
+    assert_eq!(rt; trace.len(), lines);
+    let mut numbers = Vec::new(alloc);
+    for i in 0..trace.len() {
+        assert_eq!(rt; trace.line(i).len(), slots);
+        numbers.extend_from_slice(trace.line(i))?;
+    }
+    Ok(numbers)
+}
+
+#[test]
+fn traces_are_drawn(rt: HostRuntime) -> Result<(), Fail> {
+    let alloc = rt.alloc();
+    let rows: [(u64, usize, u64, u64, &[u32]); 4] = [
+        (1, 2, 4, 1, &[0, 0]),
+        (5, 2, 5, 0, &[0, 0, 0, 2, 0, 1, 0, 0, 4, 0]),
+        (
+            7,
+            3,
+            65536,
+            18446744073709551615,
+            &[
+                0, 0, 0, 33659, 0, 0, 40286, 0, 0, 40286, 0, 40885, 40286, 0, 52580, 63263, 0,
+                52580, 63263, 0, 19124,
+            ],
+        ),
+        (
+            8,
+            8,
+            4,
+            1,
+            &[
+                0, 0, 0, 0, 0, 0, 0, 0, 0, 0, 0, 0, 0, 0, 0, 0, 0, 0, 0, 0, 0, 0, 0, 2, 0, 0, 0, 0,
+                0, 0, 0, 2, 0, 0, 0, 2, 0, 0, 0, 2, 2, 0, 0, 2, 0, 0, 0, 2, 1, 0, 0, 2, 0, 0, 0, 2,
+                1, 0, 0, 2, 0, 2, 0, 2,
+            ],
+        ),
+    ];
+    for (lines, slots, values, seed, numbers) in rows {
+        let all = drawn(&rt, alloc, lines, slots, values, seed)?;
+        assert_eq!(rt; all.as_slice(), numbers);
+    }
+    let zeros = drawn(&rt, alloc, 10, 8, 1, 1)?;
+    assert_eq!(rt; zeros.as_slice(), [0; 80].as_slice());
+    let last = drawn(&rt, alloc, 1000, 8, 4, 1)?;
+    assert!(rt; last.len() == 8000);
+    assert_eq!(rt; &last[7992..], [3, 3, 2, 2, 1, 2, 1, 1].as_slice());
+    Ok(())
+}
+
+#[test]
+fn vectors_are_written(rt: HostRuntime) -> Result<(), Fail> {
+    let alloc = rt.alloc();
+    let flat = [5, 3, 7, 0, 4294967295, 10, 3, 5, 0];
+    let text = b"3,5,0\n5,3,7\n0,4294967295,10\n5,3,7\n";
+    let mut sink = MemSink::new(alloc, 1000, Vec::new(alloc), 7)?;
+    assert!(rt; write_vectors(3, &flat, &[2, 0, 1, 0], &mut sink).is_ok());
+    assert_eq!(rt; sink.bytes(), text.as_slice());
+    let mut sink = MemSink::new(alloc, 1000, vec![in alloc; 3u64]?, 5)?;
+    assert!(rt; write_vectors(3, &flat, &[2, 0, 1, 0], &mut sink) == Err(WriteFault));
+    assert_eq!(rt; sink.bytes(), b"3,5,0\n5,3,".as_slice());
+    let mut sink = MemSink::new(alloc, 1000, Vec::new(alloc), 7)?;
+    assert!(rt; write_vectors(2, &flat, &[], &mut sink).is_ok());
+    assert!(rt; sink.bytes().is_empty());
+    Ok(())
+}
+
+#[test]
+fn long_texts_are_written_in_pages(rt: HostRuntime) -> Result<(), Fail> {
+    let alloc = rt.alloc();
+    let flat = [123456789u32; 1024];
+    let mut text = Vec::new(alloc);
+    for i in 0..3072 {
+        text.extend_from_slice(b"123456789")?;
+        text.push(if i % 1024 == 1023 { b'\n' } else { b',' })?;
+    }
+    let mut sink = MemSink::new(alloc, 40000, Vec::new(alloc), 40000)?;
+    assert!(rt; write_vectors(1024, &flat, &[0, 0, 0], &mut sink).is_ok());
+    assert_eq!(rt; sink.bytes(), text.as_slice());
     Ok(())
 }

@@ -5,7 +5,8 @@ ghost use Rattle.tdb_base.specs.Replies.{is_new};
 ghost use Rattle.trace_csv.specs.Output.{TakesFront};
 ghost use Rattle.trace_csv.specs.Report.{report, summary_text, stats_text, reply_line, reply_lines, named_line};
 
-use super::{Stats, Summary, WriteFault, put};
+use super::{Stats, Summary};
+use crate::output::{WriteFault, finish, put};
 use crate::short_text::ShortText;
 use tdb_base::{Reply, Sink};
 
@@ -39,17 +40,6 @@ pub fn write_summary<K: Sink>(summary: &Summary, sink: &mut K) -> Result<(), Wri
     put_summary(summary, sink)?;
     finish(sink)?;
     Ok(())
-}
-
-fn finish<K: Sink>(sink: &mut K) -> Result<(), WriteFault>
-    ensures settled { OnOk result (K.settled sink.new ≡ true) }
-    ensures same { Appends (K.taken sink.old) (K.taken sink.new) [] }
-    ensures cause { HasCause (K.faults sink.old) (K.faults sink.new) result }
-{
-    match sink.finish() {
-        Ok(()) => Ok(()),
-        Err(_) => Err(WriteFault),
-    }
 }
 
 fn put_replies<K: Sink>(replies: &[Reply], sink: &mut K) -> Result<(), WriteFault>

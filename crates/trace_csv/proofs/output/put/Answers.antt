@@ -1,7 +1,7 @@
 use Rattle.std.proofs.Common.{arith, ◌++◌, take, drop, ap, sym, ◌∙◌, append_assoc}
 use Rattle.std.proofs.lemmas.List.{take-append-drop}
 use Rattle.trace_csv.proofs.OutputLemmas.{appends-more}
-use Rattle.trace_csv.proofs.report.put.Goals as goal
+use Rattle.trace_csv.proofs.output.put.Goals as goal
 
 pub loop-rest-preserved : goal.loop-rest-preserved
 loop-rest-preserved g c =
