@@ -6,3 +6,4 @@ pub mod Joins
 pub mod Hires
 pub mod Answered
 pub mod Running
+pub mod Few
