@@ -188,9 +188,6 @@ at_push (u ∷ vectors) (t ∷ replies) v reply same (suc i) w s a b = next (at_
     next (before c d) = before c d
     next (final c d) = final c d
 
-has_push_front : {A : Type 0} (x y : A) (xs : List A) → Has x xs → Has x (xs ++ y ∷ [])
-has_push_front x y xs h = has_front x xs (y ∷ []) h
-
 module _ (table : TableId) (about : About) where
   -- none yet
   pub none_inserted : (p : PassOf Roots) → Rests table about p → Inserted table about [] [] p p

@@ -1,5 +1,5 @@
 -- A worker's lines as a list.
-use Rattle.std.proofs.Common.{◌≡◌, ℕ, zero, suc, ◌+◌, ◌*◌, ◌/◌, ◌%◌, ◌<◌, ◌≤◌, Bool, true, false, cond, List, [], ◌∷◌, ◌++◌, length, map, drop, Some, None, refl, sym, ap, ◌∙◌, subst, ⊎_elim, arith, add-one, append-nil}
+use Rattle.std.proofs.Common.{◌≡◌, ℕ, zero, suc, ◌+◌, ◌*◌, ◌/◌, ◌%◌, ◌<◌, ◌≤◌, Bool, true, false, cond, List, [], ◌∷◌, ◌++◌, length, map, Some, None, refl, sym, ap, ◌∙◌, subst, ⊎_elim, arith, add-one, append-nil}
 use Rattle.std.specs.Prelude.{◌==◌, option_map, Contains, filter, slice_get}
 use Rattle.std.specs.List.{range_with_len}
 use Rattle.std.proofs.lemmas.Bool.{cases_eq, eq-eqb, ne_eqb, eqb-true}
@@ -148,18 +148,6 @@ same-turn lines workers block one other n m i first second =
       one-turn-each lines workers block other n m i
           (subst (λ (j : ℕ). slice_get (mine lines workers block j) n ≡ Some i) same first) second,
     )
-
--- a list's elements taken from its front, one by one
-pub taken-one : {A : Type 0} (xs rest : List A) (k : ℕ) (x : A) → drop k xs ≡ x ∷ rest → (slice_get xs k ≡ Some x) × (drop (suc k) xs ≡ rest)
-taken-one [] rest zero x e = cc e
-taken-one [] rest (suc k) x e = cc e
-taken-one (y ∷ xs) rest zero x e = (let same : y ≡ x = cc e in ap Some same, cc e)
-taken-one (y ∷ xs) rest (suc k) x e = taken-one xs rest k x e
-
-pub taken-all : {A : Type 0} (xs : List A) (k : ℕ) → drop k xs ≡ [] → length xs ≤ k
-taken-all [] k e = omega arith
-taken-all (y ∷ xs) zero e = cc e
-taken-all (y ∷ xs) (suc k) e = omega (arith, taken-all xs k e)
 
 keeps-all : (p : ℕ → Bool) (xs : List ℕ) → ((x : ℕ) → p x ≡ true) → filter p xs ≡ xs
 keeps-all p [] h = refl

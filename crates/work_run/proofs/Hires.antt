@@ -1,5 +1,5 @@
 -- Workers are hired one after the other, and leave again without having done anything.
-use Rattle.std.proofs.Common.{◌≡◌, ◌⊎◌, ℕ, zero, suc, ◌<◌, List, [], ◌∷◌, ◌++◌, length, get_or, map, Bool, true, false, refl, sym, ap, ◌∙◌, subst, inl, inr, ⊎_elim, arith, append-nil, length-append}
+use Rattle.std.proofs.Common.{◌≡◌, ◌⊎◌, ℕ, zero, suc, ◌<◌, List, [], ◌∷◌, ◌++◌, length, map, Bool, true, false, refl, sym, ap, ◌∙◌, subst, inl, inr, ⊎_elim, arith, append-nil, length-append}
 use Rattle.std.specs.Prelude.{nat_lt, if◌then◌else◌}
 use Rattle.atomic_table.specs.Seated.{TableId}
 use Rattle.tree_shape.specs.Tree.{Has, IsPart}
@@ -13,7 +13,8 @@ use Rattle.pair_rule.specs.Rest.{AtRest, Whole, view}
 use Rattle.pair_rule.proofs.Lists.{has_front, has_either}
 use Rattle.work_run.specs.declared.worker.Worker.{Worker}
 use Rattle.work_run.specs.Crew.{lefts, joints, IsHired, Hired, Joined, Unused}
-use Rattle.work_run.proofs.Joins.{has_map, numbers_first, numbers_other}
+use Rattle.work_run.proofs.Elements.{has_map, has_unmap, has_place, placed, each_push}
+use Rattle.work_run.proofs.Joins.{numbers_first, numbers_other}
 
 -- the longer of one history and itself
 longer_same : (h : History) → longer h h ≡ h
@@ -101,36 +102,6 @@ module _ {T : Type 0} where
           made = (λ k. s.made k ++ d.made k) ∙ append-nil v.made;
           probes = omega (arith, s.probes, d.probes);
         }
-
-pub has_unmap : {A B : Type 0} (f : A → B) (y : B) (xs : List A) → Has y (map f xs) → (x : A) × Has x xs × (y ≡ f x)
-has_unmap f y [] h = absurd h
-has_unmap f y (x ∷ xs) h = ⊎_elim (λ (e : y ≡ f x). (x, inl refl, e)) (λ (t : Has y (map f xs)). let m = has_unmap f y xs t in (m.0, inr m.1, m.2)) h
-
-pub has_place : {A : Type 0} (x : A) (xs : List A) → Has x xs → (j : ℕ) × (j < length xs) × (get_or xs j x ≡ x)
-has_place x [] h = absurd h
-has_place x (y ∷ ys) h = ⊎_elim
-    (λ (e : x ≡ y). let found : (j : ℕ) × (j < suc (length ys)) × (get_or (y ∷ ys) j x ≡ x) = (zero, omega arith, sym e) in found)
-    (λ (t : Has x ys). let m = has_place x ys t in let found : (j : ℕ) × (j < suc (length ys)) × (get_or (y ∷ ys) j x ≡ x) = (suc m.0, omega (arith, m.1), m.2) in found)
-    h
-
--- the element at a place
-pub record Placed {A : Type 0} (xs : List A) (j : ℕ) : Type 0 where
-  pub one : A
-  pub there : Has one xs
-  pub here : (d : A) → get_or xs j d ≡ one
-
-pub placed : {A : Type 0} (xs : List A) (j : ℕ) → j < length xs → Placed xs j
-placed [] j lt = absurd (omega arith)
-placed (x ∷ xs) zero lt = record { one = x; there = inl refl; here = λ d. refl }
-placed (x ∷ xs) (suc j) lt = let p = placed xs j (omega arith) in record { one = p.one; there = inr p.there; here = λ d. p.here d }
-
--- a fact of each place, when an element is added
-pub each_push : {A : Type 0} (P : ℕ → A → Type 0) (xs : List A) (x : A) → ((j : ℕ) (d : A) → j < length xs → P j (get_or xs j d)) → P (length xs) x
-    → (j : ℕ) (d : A) → j < length (xs ++ x ∷ []) → P j (get_or (xs ++ x ∷ []) j d)
-each_push P [] x each here zero d lt = here
-each_push P [] x each here (suc j) d lt = absurd (omega arith)
-each_push P (y ∷ ys) x each here zero d lt = each zero d (omega arith)
-each_push P (y ∷ ys) x each here (suc j) d lt = each_push (λ k. P (suc k)) ys x (λ k e l. each (suc k) e (omega arith)) here j d (omega arith)
 
 module _ {T : Type 0} (roots : About → History → T → List (ℕ × ℕ)) (house : About → List (ℕ × ℕ) → Type 0) (told : About → View T → Type 0) (table : TableId) (about : About) (cut : T → T) (rooms : ℕ → ℕ) where
   pub hired_none : (p : PassOf T) → AtRest roots house told table about p → Hired roots house told table about cut rooms p p []

@@ -1,5 +1,5 @@
 -- Passes are joined into one, one after the other.
-use Rattle.std.proofs.Common.{◌≡◌, ℕ, List, [], ◌∷◌, ◌++◌, map, refl, sym, ap, ◌∙◌, subst, inl, inr, ⊎_elim, append_assoc, append-nil}
+use Rattle.std.proofs.Common.{◌≡◌, ℕ, List, [], ◌∷◌, ◌++◌, map, refl, sym, ap, ◌∙◌, subst, ⊎_elim, append_assoc, append-nil}
 use Rattle.std.specs.Prelude.{All, Some}
 use Rattle.std.proofs.lemmas.List.Elements.{All-pop}
 use Rattle.atomic_table.specs.Seated.{TableId}
@@ -14,10 +14,7 @@ use Rattle.pair_rule.proofs.Lists.{has_front, has_back}
 use Rattle.pair_rule.proofs.Histories.{extends_refl, extends_trans}
 use Rattle.work_run.specs.declared.worker.Worker.{Worker}
 use Rattle.work_run.specs.Crew.{joints, HasTaken, Joined}
-
-pub has_map : {A B : Type 0} (f : A → B) (x : A) (xs : List A) → Has x xs → Has (f x) (map f xs)
-has_map f x [] h = absurd h
-has_map f x (y ∷ ys) h = ⊎_elim (λ (e : x ≡ y). inl (ap f e)) (λ (t : Has x ys). inr (has_map f x ys t)) h
+use Rattle.work_run.proofs.Elements.{has_map}
 
 module _ {T : Type 0} (glue : T → T → T) where
   -- the numbers of views that were joined into one are its numbers

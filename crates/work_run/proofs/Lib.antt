@@ -2,7 +2,9 @@ pub mod Rounds
 pub mod Dealing
 pub mod Stepping
 pub mod Mine
+pub mod Elements
 pub mod Joins
 pub mod Hires
 pub mod Answered
 pub mod Running
+pub mod Few

@@ -1,11 +1,10 @@
 -- What a run leaves: workers are hired, insert their lines, and are dismissed.
-use Rattle.std.proofs.Common.{◌≡◌, ◌⊎◌, ℕ, zero, suc, ◌+◌, ◌*◌, ◌/◌, ◌%◌, ◌<◌, ◌≤◌, List, [], ◌∷◌, ◌++◌, length, get_or, map, false, Option, Some, None, refl, sym, ap, ◌∙◌, subst, inl, inr, ⊎_elim, arith, eq-eqb}
-use Rattle.std.specs.Prelude.{◌==◌, All, Contains, slice_get, sum}
+use Rattle.std.proofs.Common.{◌≡◌, ◌⊎◌, ℕ, zero, suc, ◌+◌, ◌*◌, ◌/◌, ◌%◌, ◌<◌, ◌≤◌, List, [], ◌∷◌, ◌++◌, length, get_or, map, false, Option, Some, None, refl, sym, ap, ◌∙◌, subst, inl, inr, ⊎_elim, arith, length-append}
+use Rattle.std.specs.Prelude.{All, Contains, slice_get, sum}
 use Rattle.std.specs.List.{filter_map, range_with_len}
-use Rattle.std.proofs.lemmas.Bool.{cases_eq}
 use Rattle.std.proofs.lemmas.Nat.{mod_below}
 use Rattle.std.proofs.lemmas.List.FromFn.{length-map-range_with_len}
-use Rattle.std.proofs.lemmas.List.{get_or-map, length-map}
+use Rattle.std.proofs.lemmas.List.{get_or-map, length-map, nil_from_length}
 use Rattle.std.proofs.lemmas.List.Sums.{sum_by-cons}
 use Rattle.std.proofs.lemmas.Option.{slice_get_within}
 use Rattle.atomic_table.specs.Seated.{TableId}
@@ -15,7 +14,8 @@ use Rattle.tdb_base.specs.History.{Vector, Entry, History, calls}
 use Rattle.tdb_base.specs.Legal.{IsLegal, Extends}
 use Rattle.tdb_base.specs.Lines.{mine, picked}
 use Rattle.tdb_base.specs.declared.reply.Reply.{Reply}
-use Rattle.tdb_base.proofs.ListLemmas.{at-contained, at-filter}
+use Rattle.tdb_base.proofs.AgreesLemmas.{calls-some}
+use Rattle.tdb_base.proofs.ListLemmas.{at-contained}
 use Rattle.tdb_base.proofs.PickLemmas.{mine_below, picked_length, told_picked}
 use Rattle.tdb_base.proofs.TallyLemmas.{contained-at}
 use Rattle.pair_rule.specs.declared.view.View.{View}
@@ -38,28 +38,10 @@ use Rattle.work_run.specs.Work.{HasAnswered}
 use Rattle.work_run.specs.Ran.{OneHistory, FullAreBarred, NewNodesAreOfLines, puts_of_worker, puts_of_all}
 use Rattle.work_run.proofs.Answered.{barred_more, of_one_more}
 use Rattle.work_run.proofs.Dealing.{mine-turn}
-use Rattle.work_run.proofs.Hires.{given, lefts_stay, placed, has_unmap, has_place, whole_again}
-use Rattle.work_run.proofs.Joins.{has_map, numbers_other}
+use Rattle.work_run.proofs.Elements.{has_or_not, has_map, has_unmap, has_place, placed, numbered_at, at_numbered}
+use Rattle.work_run.proofs.Hires.{given, lefts_stay, whole_again}
+use Rattle.work_run.proofs.Joins.{numbers_other}
 use Rattle.work_run.proofs.Mine.{picked_at, picked_has}
-
--- a number is in a list or not
-has_or_not : (c : ℕ) (xs : List ℕ) → Has c xs ⊎ (Has c xs → ⊥)
-has_or_not c [] = inr (λ h. h)
-has_or_not c (x ∷ xs) = ⊎_elim
-    (λ (e : c ≡ x). let yes : Has c (x ∷ xs) ⊎ (Has c (x ∷ xs) → ⊥) = inl (inl e) in yes)
-    (λ (ne : c ≡ x → ⊥). ⊎_elim
-    (λ (t : Has c xs). let yes : Has c (x ∷ xs) ⊎ (Has c (x ∷ xs) → ⊥) = inl (inr t) in yes)
-    (λ (no : Has c xs → ⊥). let none : Has c (x ∷ xs) ⊎ (Has c (x ∷ xs) → ⊥) = inr (λ h. ⊎_elim (λ (e : c ≡ x). ne e) (λ (t : Has c xs). no t) h) in none)
-    (has_or_not c xs))
-    (cases_eq c x)
-
--- the caller of an entry has a call
-has_call : (h : History) (e : Entry) → Contains h e → calls h e.caller ≡ [] → ⊥
-has_call h e there none =
-    let at = at-contained h e there in
-    let found = at-filter (λ (x : Entry). x.caller == e.caller) h e at.0 at.1 (eq-eqb e.caller e.caller refl) in
-    let nothing : slice_get {X = Entry} [] found.0 ≡ Some e = subst (λ (x : History). slice_get x found.0 ≡ Some e) none found.1 in
-    cc nothing
 
 module _ {T : Type 0} where
   lefts_splits : (n : ℕ) (v : View T) → (lefts n v).splits ≡ v.splits + n
@@ -101,21 +83,6 @@ module _ {T : Type 0} where
         let rest = probes_within v ws most (from + 1) (λ j d lt. let h = each (suc j) d (omega arith) in let e : from + suc j ≡ (from + 1) + j = omega arith in subst (λ (n : ℕ). (get_or ws j d).probes ≤ most n) e h) in
         let here = subst (λ (n : ℕ). w.probes ≤ most n) (let e : from + 0 ≡ from = omega arith in e) (each 0 w (omega arith)) in
         omega (arith, rest, here, sum_by-cons (λ (x : ℕ). x) (most from) (map most (range_with_len (from + 1) (length ws))))
-
-no_more : (g more : History) → g ++ more ≡ g → more ≡ []
-no_more [] more e = e
-no_more (x ∷ g) more e = no_more g more (cc e)
-
--- the elements of a list that is made by numbers
-at_numbered : {A : Type 0} (f : ℕ → A) (from n k : ℕ) (x : A) → slice_get (map f (range_with_len from n)) k ≡ Some x → (k < n) × (x ≡ f (from + k))
-at_numbered f from zero k x at = cc at
-at_numbered f from (suc n) zero x at = (omega arith, let e : f from ≡ x = cc at in sym e ∙ ap f (omega arith))
-at_numbered f from (suc n) (suc k) x at = let h = at_numbered f (from + 1) n k x at in (omega (arith, h.0), h.1 ∙ ap f (omega arith))
-
-numbered_at : {A : Type 0} (f : ℕ → A) (from n k : ℕ) → k < n → slice_get (map f (range_with_len from n)) k ≡ Some (f (from + k))
-numbered_at f from zero k lt = absurd (omega arith)
-numbered_at f from (suc n) zero lt = ap (λ (x : ℕ). Some (f x)) (omega arith)
-numbered_at f from (suc n) (suc k) lt = numbered_at f (from + 1) n k (omega arith) ∙ ap (λ (x : ℕ). Some (f x)) (omega arith)
 
 -- each worker that answered has a reply for each of its lines
 pub replies_each : (table : TableId) (about : About) (cut : Roots → Roots) (rooms : ℕ → ℕ) (base now : PassOf Roots) (trace : List Vector) (workers block : ℕ) (crew after : List (Worker Roots))
@@ -200,9 +167,6 @@ module _ (table : TableId) (about : About) (cut : Roots → Roots) (glue : Roots
   joined_is : view new ≡ joints glue (lefts workers v0) views
   joined_is = joint.view_is ∙ (λ i. joints glue ((hired.view_is ∙ ap (λ (n : ℕ). lefts n v0) all_hired) i) views)
 
-  number_of : (j : ℕ) (lt : j < workers) → (view (mate j lt).pass).number ≡ given v0 j
-  number_of j lt = let m = mate j lt in ap (λ f. f.number) m.inserted.face_is ∙ ap (λ (u : View Roots). u.number) m.start_is
-
   numbers_of : (j : ℕ) (lt : j < workers) → (view (mate j lt).pass).numbers ≡ given v0 j ∷ []
   numbers_of j lt = let m = mate j lt in ap (λ f. f.numbers) m.inserted.face_is ∙ ap (λ (u : View Roots). u.numbers) m.start_is
 
@@ -277,19 +241,16 @@ module _ (table : TableId) (about : About) (cut : Roots → Roots) (glue : Roots
     extends = subst (λ (h : History). Extends h (view new).seen) (ap (λ (u : View Roots). u.seen) (hired.view_is) ∙ (lefts_stay (length crew) v0).seen) joint.base_taken.seen;
     callers_count = length-map-range_with_len (given v0) 0 workers;
     callers_differ = λ j k c a b.
-        (let x = at_numbered (given v0) 0 workers j c a in
-        let y = at_numbered (given v0) 0 workers k c b in
-        let same = given_differ v0 (0 + j) (0 + k) (sym x.1 ∙ y.1) in
-        omega (arith, same));
+        (let x = at_numbered (given v0) workers j c a in
+        let y = at_numbered (given v0) workers k c b in
+        given_differ v0 j k (sym x.1 ∙ y.1));
     callers_new = λ c there.
         (let at = at-contained callers c there in
-        let x = at_numbered (given v0) 0 workers at.0 c at.1 in
-        let is : c ≡ given v0 at.0 = x.1 ∙ ap (given v0) (omega arith) in
-        ap (λ (n : ℕ). calls v0.seen n) is ∙ (mate at.0 x.0).fresh);
+        let x = at_numbered (given v0) workers at.0 c at.1 in
+        ap (λ (n : ℕ). calls v0.seen n) x.1 ∙ (mate at.0 x.0).fresh);
     in_order = λ j c a.
-        (let x = at_numbered (given v0) 0 workers j c a in
-        let is : c ≡ given v0 j = x.1 ∙ ap (given v0) (omega arith) in
-        subst (λ (n : ℕ). calls (view new).seen n ≡ filter_map (entry_at n trace replies) (lines_of j)) (sym is) (calls_of j x.0));
+        (let x = at_numbered (given v0) workers j c a in
+        subst (λ (n : ℕ). calls (view new).seen n ≡ filter_map (entry_at n trace replies) (lines_of j)) (sym x.1) (calls_of j x.0));
     full = λ i v reply a b full.
         (let t = turn i v reply a b in
         let m = mate t.worker t.among in
@@ -301,23 +262,17 @@ module _ (table : TableId) (about : About) (cut : Roots → Roots) (glue : Roots
   unfolding callers
   joined_run c there =
       let at = at-contained callers c there in
-      let x = at_numbered (given v0) 0 workers at.0 c at.1 in
-      let is : c ≡ given v0 at.0 = x.1 ∙ ap (given v0) (omega arith) in
-      subst (λ (n : ℕ). Has n (view new).numbers) (sym is)
+      let x = at_numbered (given v0) workers at.0 c at.1 in
+      subst (λ (n : ℕ). Has n (view new).numbers) (sym x.1)
       (subst (λ (u : View Roots). Has (given v0 at.0) u.numbers) (sym joined_is) (numbers_other glue (lefts workers v0) (view (mate at.0 x.0).pass) views (given v0 at.0) (has_view at.0 x.0) (has_own at.0 x.0)))
 
-  -- whoever called since is no caller that called nothing since
-  silent : (more : History) → (view new).seen ≡ v0.seen ++ more → (e : Entry) → Contains more e → calls (view new).seen e.caller ≡ calls v0.seen e.caller → ⊥
-  silent more is e there same =
+  -- whoever called since has more calls than before
+  silent : (more : History) → (view new).seen ≡ v0.seen ++ more → (e : Entry) → Contains more e → length (calls (view new).seen e.caller) ≤ length (calls v0.seen e.caller) → ⊥
+  silent more is e there few =
+      let at = at-contained more e there in
       let whole : calls (view new).seen e.caller ≡ calls v0.seen e.caller ++ calls more e.caller = ap (λ (h : History). calls h e.caller) is ∙ calls_append v0.seen more e.caller in
-      has_call more e there (no_more (calls v0.seen e.caller) (calls more e.caller) (sym whole ∙ same))
-
-  silent_all : (more : History) → (view new).seen ≡ v0.seen ++ more → (e : Entry) → Contains more e → calls (view new).seen e.caller ≡ [] → ⊥
-  silent_all more is e there none = silent more is e there (none ∙ sym (front_none (calls v0.seen e.caller) (calls more e.caller) (sym (ap (λ (h : History). calls h e.caller) is ∙ calls_append v0.seen more e.caller) ∙ none)))
-    where
-      front_none : (g h : History) → g ++ h ≡ [] → g ≡ []
-      front_none [] h e = refl
-      front_none (x ∷ g) h e = cc e
+      let long = ap (λ (h : History). length h) whole ∙ length-append (calls v0.seen e.caller) (calls more e.caller) in
+      calls-some more at.0 e at.1 (nil_from_length (calls more e.caller) (omega (arith, few, long)))
 
   now_is : view now ≡ lefts workers v0
   now_is = hired.view_is ∙ ap (λ (n : ℕ). lefts n v0) all_hired
@@ -335,13 +290,13 @@ module _ (table : TableId) (about : About) (cut : Roots → Roots) (glue : Roots
       let all = has_all table about new joint.rest (whole_run whole) in
       ⊎_elim
       (λ (h : Has c (view new).numbers). ⊎_elim
-      (λ (old : Has c (lefts workers v0).numbers). absurd (silent more is e there (old_calls c (subst (λ (x : List ℕ). Has c x) (lefts_stay workers v0).numbers old))))
+      (λ (old : Has c (lefts workers v0).numbers). absurd (silent more is e there (let same = ap (λ (h : History). length h) (old_calls c (subst (λ (x : List ℕ). Has c x) (lefts_stay workers v0).numbers old)) in omega (arith, same))))
       (λ (f : (w : View Roots) × Has w views × Has c w.numbers).
       let m = mate_of f.0 f.1 in
       let own : Has c (given v0 m.0 ∷ []) = subst (λ (x : List ℕ). Has c x) (ap (λ (u : View Roots). u.numbers) m.2 ∙ numbers_of m.0 m.1) f.2 in
-      ⊎_elim (λ (same : c ≡ given v0 m.0). contained-at callers c (m.0, numbered_at (given v0) 0 workers m.0 m.1 ∙ ap Some (ap (given v0) (omega arith) ∙ sym same))) (λ (no : ⊥). absurd no) own)
+      ⊎_elim (λ (same : c ≡ given v0 m.0). contained-at callers c (m.0, numbered_at (given v0) workers m.0 m.1 ∙ ap Some (sym same))) (λ (no : ⊥). absurd no) own)
       (numbers_either glue (lefts workers v0) views c (subst (λ (u : View Roots). Has c u.numbers) joined_is h)))
-      (λ (none : Has c (view new).numbers → ⊥). absurd (silent_all more is e there (all.callers c none)))
+      (λ (none : Has c (view new).numbers → ⊥). absurd (silent more is e there (let nothing = ap (λ (h : History). length h) (all.callers c none) in omega (arith, nothing))))
       (has_or_not c (view new).numbers)
 
   pub history_run : OneHistory about trace replies workers block v0 (view new)

@@ -1,5 +1,5 @@
 -- What a run of workers leaves: the replies to a trace's lines, and the pass into which the workers' passes were joined.
-use Rattle.std.specs.Prelude.{◌≡◌, ◌⊎◌, ℕ, List, Some, None, Contains, length, slice_get, map, sum}
+use Rattle.std.specs.Prelude.{◌≡◌, ◌*◌, ◌-◌, ◌≤◌, ◌⊎◌, ℕ, List, Some, None, Contains, length, slice_get, map, sum}
 use Rattle.std.specs.List.{range_with_len}
 use Rattle.tree_shape.specs.Tree.{Has}
 use Rattle.tdb_base.specs.Agrees.{AgreesAmongOthers, Agrees}
@@ -33,7 +33,7 @@ abbrev pub NewNodesAreOfLines : About → List Vector → (old new : View Roots)
 NewNodesAreOfLines about trace old new =
     Whole old → (index pair : ℕ) → Has (index, pair) new.known → ((other : ℕ) × Has (index, other) old.known) ⊎ IsOfOne about new.known trace index
 
--- how many nodes the lines of one worker have to be put for
+-- how many nodes have to be put for the lines of one worker
 abbrev pub puts_of_worker : About → List Vector → List Reply → (workers block worker : ℕ) → ℕ
 puts_of_worker about trace replies workers block worker =
     let places = mine (length trace) workers block worker in puts_of about None (picked trace places) (picked replies places)
@@ -41,3 +41,8 @@ puts_of_worker about trace replies workers block worker =
 -- and those of all workers
 abbrev pub puts_of_all : About → List Vector → List Reply → (workers block : ℕ) → ℕ
 puts_of_all about trace replies workers block = sum (map (puts_of_worker about trace replies workers block) (range_with_len 0 workers))
+
+-- a tree has `slots - 2` inner positions, and no line has to be put at more, whoever inserts it and whatever the replies are
+abbrev pub FewPuts : Type 0
+FewPuts =
+    (about : About) (trace : List Vector) (replies : List Reply) (workers block : ℕ) → puts_of_all about trace replies workers block ≤ (about.slots - 2) * length trace

@@ -12,7 +12,7 @@ mod work;
 mod worker;
 
 pub use lines::{line_of, lines_are_dealt_out};
-pub use run::run_lines;
+pub use run::{puts_are_few, run_lines};
 pub use worker::Worker;
 
 #[cfg(test)]

@@ -4,7 +4,7 @@ ghost use Rattle.pair_rule.specs.Rest.{Whole, view};
 ghost use Rattle.root_plain.specs.Plays.{Rests};
 ghost use Rattle.tree_store.specs.Vectors.{IsVector};
 ghost use Rattle.work_run.specs.Crew.{Unused};
-ghost use Rattle.work_run.specs.Ran.{OneHistory, FullAreBarred, NewNodesAreOfLines, puts_of_all};
+ghost use Rattle.work_run.specs.Ran.{OneHistory, FullAreBarred, NewNodesAreOfLines, FewPuts, puts_of_all};
 
 use crate::crew::{dismiss, hire};
 use crate::place::place;
@@ -51,3 +51,8 @@ pub fn run_lines<R: Threads + Sync, G: Gate, const W: u32, const F: u32>(
     dismiss(store, pass, crew);
     Ok(replies)
 }
+
+/// A tree has `slots - 2` inner positions, and no line has to be put at more: that bounds the nodes that a run has to put, whoever inserts the lines.
+pub fn puts_are_few()
+    ensures { FewPuts }
+{}

@@ -5,7 +5,8 @@ use Rattle.std.proofs.lemmas.Option.{slice_get-get_or, slice_get_within}
 use Rattle.tdb_base.specs.Lines.{mine}
 use Rattle.tdb_base.specs.declared.reply.Reply.{Reply}
 use Rattle.tdb_base.proofs.ListLemmas.{before-or-last}
-use Rattle.work_run.proofs.Mine.{at_end, at_front, mine_once, mine_within, picked_are}
+use Rattle.work_run.proofs.Dealing.{mine-inside, same-turn}
+use Rattle.work_run.proofs.Mine.{at_end, at_front, picked_are}
 use Rattle.work_run.proofs.place.place.Goals as goal
 
 pub loop-i-preserved : goal.loop-i-preserved
@@ -27,7 +28,7 @@ loop-i-preserved g c =
           (λ (below : k < i). at_front old (reply ∷ []) k (omega (arith, inv.count)) ∙ inv.placed k j n d below jlt at)
           (λ (is : k ≡ i).
           let here : slice_get (mine c.args.lines w c.args.block j) n ≡ Some i = at ∙ ap Some is in
-          let both = mine_once c.args.lines w c.args.block j turn.worker n turn.number i here mine_turn in
+          let both = same-turn c.args.lines w c.args.block j turn.worker n turn.number i here mine_turn in
           let few = slice_get_within (mine c.args.lines w c.args.block j) n i here in
           let one : get_or crew j d ≡ worker = get_or_default crew j d worker jlt ∙ (ap (λ (x : ℕ). get_or crew x worker) both.0 ∙ sym c.index-crew-turn.is) in
           let long : n < length (get_or crew j d).replies.items = omega (arith, few, c.requires.answered j d jlt) in
@@ -42,4 +43,4 @@ returns-clause-placed g c = λ j d lt. (let inv = c.loop-i.invariant in
     let w = length c.args.crew.now in
     let places = mine c.args.lines w c.args.block j in
     picked_are c.loop-i.replies.items places (get_or c.args.crew.now j d).replies.items (c.requires.answered j d lt)
-    (λ n k at. inv.placed k j n d (let within = mine_within c.args.lines w c.args.block j n k at in omega (arith, within, c.loop-i-test.false)) lt at))
+    (λ n k at. inv.placed k j n d (let within = mine-inside c.args.lines w c.args.block j n k at in omega (arith, within, c.loop-i-test.false)) lt at))
