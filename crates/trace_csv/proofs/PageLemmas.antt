@@ -4,7 +4,11 @@ use Rattle.std.proofs.lemmas.List.{append-nil}
 use Rattle.std.specs.Io.KnownBytes.{Appends}
 use Rattle.trace_csv.specs.Output.{TakesFront}
 use Rattle.trace_csv.specs.Page.{Carries}
-use Rattle.trace_csv.proofs.OutputLemmas.{appends-more, front-after, front-of}
+use Rattle.trace_csv.proofs.OutputLemmas.{appends-more, appends-none, front-after, front-of}
+
+-- a new page carries no text
+pub carries-none : (a : Option (List ℕ)) (p : List ℕ) → p ≡ [] → Carries a a [] p []
+carries-none a p e = record { moved = []; taken = appends-none a; whole = sym e }
 
 -- one text and then the next
 pub carries-more : (a b c : Option (List ℕ)) (p q r xs ys : List ℕ) → Carries a b p q xs → Carries b c q r ys → Carries a c p r (xs ++ ys)

@@ -1,10 +1,9 @@
 -- The lines of a report, one after the other.
 use Rattle.std.proofs.Common.{◌≡◌, ℕ, suc, List, [], ◌∷◌, ◌++◌, ◌+◌, ◌<◌, refl, sym, append_assoc, ◌∙◌, ap, take, drop, length, get_or, arith}
 use Rattle.std.proofs.lemmas.List.{append-nil, length-take, take-append-drop, take_more}
-use Rattle.std.specs.Io.KnownBytes.{Appends}
 use Rattle.std.proofs.Common.{◌≤◌, Option}
-use Rattle.trace_csv.specs.Output.{TakesFront}
-use Rattle.trace_csv.proofs.OutputLemmas.{appends-more, front-of, front-after}
+use Rattle.trace_csv.specs.Page.{Carries}
+use Rattle.trace_csv.proofs.PageLemmas.{carries-add}
 use Rattle.tdb_base.specs.declared.reply.Reply.{Reply}
 use Rattle.trace_csv.specs.Report.{reply_line, reply_lines}
 
@@ -41,16 +40,7 @@ lines-split xs i h =
     ap (reply_lines 0) (sym (take-append-drop i xs)) ∙ lines-append 0 (take i xs) (drop i xs)
     ∙ ap (λ k. reply_lines 0 (take i xs) ++ reply_lines k (drop i xs)) at
 
--- a sink that took the lines before a place and a front of the line there took a front of all lines
-pub lines-front : (a b c : Option (List ℕ)) (xs : List Reply) (i : ℕ) (d : Reply) → i < length xs
-    → Appends a b (reply_lines 0 (take i xs)) → TakesFront b c (reply_line (i + 1) (get_or xs i d)) → TakesFront a c (reply_lines 0 xs)
-lines-front a b c xs i d h before part =
-    let next : i + 1 ≤ length xs = omega arith in
-    let whole : reply_lines 0 xs ≡ (reply_lines 0 (take i xs) ++ reply_line (i + 1) (get_or xs i d)) ++ reply_lines (i + 1) (drop (i + 1) xs) =
-    lines-split xs (i + 1) next ∙ ap (λ t. t ++ reply_lines (i + 1) (drop (i + 1) xs)) (lines-more xs i d h) in
-    rw whole (front-of a c _ _ (front-after a b c _ _ before part))
-
--- a sink that took the lines before a place and then the line there took the lines before the next place
-pub lines-next : (a b c : Option (List ℕ)) (xs : List Reply) (i : ℕ) (d : Reply) → i < length xs
-    → Appends a b (reply_lines 0 (take i xs)) → Appends b c (reply_line (i + 1) (get_or xs i d)) → Appends a c (reply_lines 0 (take (i + 1) xs))
-lines-next a b c xs i d h before this = rw (lines-more xs i d h) (appends-more a b c _ _ before this)
+-- a text of the lines before a place, and then the line there, is one of the lines before the next place
+pub lines-next : (a b : Option (List ℕ)) (p q r : List ℕ) (xs : List Reply) (i : ℕ) (d : Reply) → i < length xs
+    → Carries a b p q (reply_lines 0 (take i xs)) → r ≡ q ++ reply_line (i + 1) (get_or xs i d) → Carries a b p r (reply_lines 0 (take (i + 1) xs))
+lines-next a b p q r xs i d h before this = rw (lines-more xs i d h) (carries-add a b p q r _ _ before this)

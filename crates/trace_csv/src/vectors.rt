@@ -27,8 +27,8 @@ pub fn write_vectors<K: Sink>(
     ensures cause { HasCause (K.faults sink.old) (K.faults sink.new) result }
 {
     let mut page = Page::new();
-    for i in 0..order.len() {
-        let (_, rest) = flat.split_at(order[i] as usize * slots);
+    for number in order {
+        let (_, rest) = flat.split_at(*number as usize * slots);
         let (vector, _) = rest.split_at(slots);
         add_vector(vector, &mut page, sink)?;
     }

@@ -1,13 +1,14 @@
-ghost use Rattle.std.specs.Prelude.{◌≡◌, ◌≤◌, ◌++◌, [], Some, length, true, OnOk, OnErr, codes, count_by};
+ghost use Rattle.std.specs.Prelude.{◌≡◌, ◌+◌, ◌≤◌, ◌++◌, Some, length, true, OnOk, OnErr, count_by};
 ghost use Rattle.std.specs.Io.KnownBytes.{Appends};
 ghost use Rattle.tdb_base.specs.Causes.{HasCause};
 ghost use Rattle.tdb_base.specs.Replies.{is_new};
 ghost use Rattle.trace_csv.specs.Output.{TakesFront};
-ghost use Rattle.trace_csv.specs.Report.{report, summary_text, stats_text, reply_line, reply_lines, named_line};
+ghost use Rattle.trace_csv.specs.Page.{HasRoom};
+ghost use Rattle.trace_csv.specs.Report.{report, summary_text, stats_text, reply_line, named_line};
 
 use super::{Stats, Summary};
-use crate::output::{WriteFault, finish, put};
-use crate::short_text::ShortText;
+use crate::output::WriteFault;
+use crate::page::{Page, close, make_room};
 use tdb_base::{Reply, Sink};
 
 /// A line for each reply, numbered from 1, and then the summary; after that the sink has finished.
@@ -25,8 +26,14 @@ pub fn write_report<K: Sink>(
     ensures front { OnErr result (TakesFront (K.taken sink.old) (K.taken sink.new) (report replies.now summary.now)) }
     ensures cause { HasCause (K.faults sink.old) (K.faults sink.new) result }
 {
-    put_replies(replies, sink)?;
-    write_summary(summary, sink)?;
+    let mut page = Page::new();
+    for i in 0..replies.len() {
+        make_room(&mut page, sink)?;
+        add_reply(i as u64 + 1, replies[i], &mut page);
+    }
+    make_room(&mut page, sink)?;
+    add_summary(summary, &mut page);
+    close(&page, sink)?;
     Ok(())
 }
 
@@ -37,93 +44,60 @@ pub fn write_summary<K: Sink>(summary: &Summary, sink: &mut K) -> Result<(), Wri
     ensures front { OnErr result (TakesFront (K.taken sink.old) (K.taken sink.new) (summary_text summary.now)) }
     ensures cause { HasCause (K.faults sink.old) (K.faults sink.new) result }
 {
-    put_summary(summary, sink)?;
-    finish(sink)?;
+    let mut page = Page::new();
+    add_summary(summary, &mut page);
+    close(&page, sink)?;
     Ok(())
 }
 
-fn put_replies<K: Sink>(replies: &[Reply], sink: &mut K) -> Result<(), WriteFault>
-    ensures ok { OnOk result (Appends (K.taken sink.old) (K.taken sink.new) (reply_lines 0 replies.now)) }
-    ensures front { OnErr result (TakesFront (K.taken sink.old) (K.taken sink.new) (reply_lines 0 replies.now)) }
-    ensures cause { HasCause (K.faults sink.old) (K.faults sink.new) result }
+// Adds the line of a reply, at most 53 bytes.
+fn add_reply(number: u64, reply: Reply, page: &mut Page)
+    requires { HasRoom page.old 53 }
+    ensures { page.new ≡ page.old ++ reply_line number reply }
 {
-    for i in 0..replies.len() {
-        put_reply(i as u64 + 1, replies[i], sink)?;
-    }
-    Ok(())
-}
-
-fn put_reply<K: Sink>(number: u64, reply: Reply, sink: &mut K) -> Result<(), WriteFault>
-    ensures ok { OnOk result (Appends (K.taken sink.old) (K.taken sink.new) (reply_line number reply)) }
-    ensures front { OnErr result (TakesFront (K.taken sink.old) (K.taken sink.new) (reply_line number reply)) }
-    ensures cause { HasCause (K.faults sink.old) (K.faults sink.new) result }
-{
-    let text = text_of_reply(number, reply);
-    put(sink, text.as_slice())
-}
-
-fn text_of_reply(number: u64, reply: Reply) -> ShortText
-    ensures { result ≡ reply_line number reply }
-{
-    let mut text = ShortText::new();
-    text.add_number(number);
-    text.add(b",");
+    page.add_number(number);
+    page.add(b",");
     match reply {
         Reply::New(id) => {
-            text.add_number(id);
-            text.add(b",new\n");
+            page.add_number(id);
+            page.add(b",new\n");
         }
         Reply::Seen(id) => {
-            text.add_number(id);
-            text.add(b",seen\n");
+            page.add_number(id);
+            page.add(b",seen\n");
         }
-        Reply::FullNodes => text.add(b",full-nodes\n"),
-        Reply::FullRoots => text.add(b",full-roots\n"),
+        Reply::FullNodes => page.add(b",full-nodes\n"),
+        Reply::FullRoots => page.add(b",full-roots\n"),
     }
-    text
 }
 
-fn put_summary<K: Sink>(summary: &Summary, sink: &mut K) -> Result<(), WriteFault>
-    ensures ok { OnOk result (Appends (K.taken sink.old) (K.taken sink.new) (summary_text summary.now)) }
-    ensures front { OnErr result (TakesFront (K.taken sink.old) (K.taken sink.new) (summary_text summary.now)) }
-    ensures cause { HasCause (K.faults sink.old) (K.faults sink.new) result }
+// Adds the end of a report, at most 137 bytes.
+fn add_summary(summary: &Summary, page: &mut Page)
+    requires { HasRoom page.old 137 }
+    ensures { page.new ≡ page.old ++ summary_text summary.now }
 {
-    put_count(b"lines ", summary.lines, sink)?;
-    put_count(b"distinct ", summary.distinct, sink)?;
+    add_count(b"lines ", summary.lines, page);
+    add_count(b"distinct ", summary.distinct, page);
     if let Some(stats) = summary.stats {
-        put_stats(stats, sink)?;
+        add_stats(stats, page);
     }
-    Ok(())
 }
 
-fn put_stats<K: Sink>(stats: Stats, sink: &mut K) -> Result<(), WriteFault>
-    ensures ok { OnOk result (Appends (K.taken sink.old) (K.taken sink.new) (stats_text (Some stats))) }
-    ensures front { OnErr result (TakesFront (K.taken sink.old) (K.taken sink.new) (stats_text (Some stats))) }
-    ensures cause { HasCause (K.faults sink.old) (K.faults sink.new) result }
+fn add_stats(stats: Stats, page: &mut Page)
+    requires { HasRoom page.old 80 }
+    ensures { page.new ≡ page.old ++ stats_text (Some stats) }
 {
-    put_count(b"nodes ", stats.nodes, sink)?;
-    put_count(b"stored ", stats.stored, sink)?;
-    put_count(b"raw ", stats.raw, sink)?;
-    Ok(())
+    add_count(b"nodes ", stats.nodes, page);
+    add_count(b"stored ", stats.stored, page);
+    add_count(b"raw ", stats.raw, page);
 }
 
-fn put_count<K: Sink>(name: &[u8], count: u64, sink: &mut K) -> Result<(), WriteFault>
-    requires { length name.now ≤ 9 }
-    ensures ok { OnOk result (Appends (K.taken sink.old) (K.taken sink.new) (named_line name.now count)) }
-    ensures front { OnErr result (TakesFront (K.taken sink.old) (K.taken sink.new) (named_line name.now count)) }
-    ensures cause { HasCause (K.faults sink.old) (K.faults sink.new) result }
+fn add_count(name: &[u8], count: u64, page: &mut Page)
+    requires { HasRoom page.old (length name.now + 21) }
+    ensures text { page.new ≡ page.old ++ named_line name.now count }
+    ensures short { length page.new ≤ length page.old + length name.now + 21 }
 {
-    let text = text_of_count(name, count);
-    put(sink, text.as_slice())
-}
-
-fn text_of_count(name: &[u8], count: u64) -> ShortText
-    requires { length name.now ≤ 9 }
-    ensures { result ≡ named_line name.now count }
-{
-    let mut text = ShortText::new();
-    text.add(name);
-    text.add_number(count);
-    text.add(b"\n");
-    text
+    page.add(name);
+    page.add_number(count);
+    page.add(b"\n");
 }

@@ -11,31 +11,31 @@ returns-in_err-add_vector-clause-front g c =
     let slots = c.args.slots in
     let flat = c.args.flat.now in
     let order = c.args.order.now in
-    let i = c.loop-i.i in
-    let vector : c.split_at-in-loop-i.result.0.now ≡ vector_at slots flat (get_or order i 0) =
-    c.split_at-in-loop-i.ensures.front ∙ ap (take slots) c.split_at.ensures.back in
-    let more : vectors_text (vectors_of slots flat (take i order)) ++ vector_line c.split_at-in-loop-i.result.0.now ≡ vectors_text (vectors_of slots flat (take (i + 1) order)) =
+    let i = c.loop-number.number-index in
+    let vector : c.split_at-in-loop-number.result.0.now ≡ vector_at slots flat (get_or order i 0) =
+    c.split_at-in-loop-number.ensures.front ∙ ap (take slots) c.split_at.ensures.back in
+    let more : vectors_text (vectors_of slots flat (take i order)) ++ vector_line c.split_at-in-loop-number.result.0.now ≡ vectors_text (vectors_of slots flat (take (i + 1) order)) =
     ap (λ v. vectors_text (vectors_of slots flat (take i order)) ++ vector_line v) vector ∙ sym (vectors-more slots flat order i (omega arith)) in
-    on_err _ _ (carries-front _ _ _ [] _ _ _ _ (vectors_text (vectors_of slots flat order)) c.loop-i.invariant.carried c.in_err-add_vector.ensures.front
+    on_err _ _ (carries-front _ _ _ [] _ _ _ _ (vectors_text (vectors_of slots flat order)) c.loop-number.invariant.carried c.in_err-add_vector.ensures.front
     (vectors-split slots flat order (i + 1) ∙ ap (λ t. t ++ vectors_text (vectors_of slots flat (drop (i + 1) order))) (sym more)))
 
-pub loop-i-preserved : goal.loop-i-preserved
-loop-i-preserved g c =
+pub loop-number-preserved : goal.loop-number-preserved
+loop-number-preserved g c =
     let slots = c.args.slots in
     let flat = c.args.flat.now in
     let order = c.args.order.now in
-    let i = c.loop-i.i in
-    let vector : c.split_at-in-loop-i.result.0.now ≡ vector_at slots flat (get_or order i 0) =
-    c.split_at-in-loop-i.ensures.front ∙ ap (take slots) c.split_at.ensures.back in
+    let i = c.loop-number.number-index in
+    let vector : c.split_at-in-loop-number.result.0.now ≡ vector_at slots flat (get_or order i 0) =
+    c.split_at-in-loop-number.ensures.front ∙ ap (take slots) c.split_at.ensures.back in
     record {
       carried = rw (vectors-more slots flat order i (omega arith), ← vector)
-          (carries-more _ _ _ _ _ _ _ _ c.loop-i.invariant.carried c.in_ok-add_vector.ensures.ok);
+          (carries-more _ _ _ _ _ _ _ _ c.loop-number.invariant.carried c.in_ok-add_vector.ensures.ok);
       later = omega (arith, c.in_ok-add_vector.ensures.cause.later);
     }
 
 pub returns-in_err-close-clause-front : goal.returns-in_err-close-clause-front
 returns-in_err-close-clause-front g c =
     let text = vectors_text (vectors_of c.args.slots c.args.flat.now c.args.order.now) in
-    let all : take c.loop-i.i c.args.order.now ≡ c.args.order.now = take_all c.loop-i.i c.args.order.now (omega arith) in
-    let carried = rw all at c.loop-i.invariant.carried in
+    let all : take c.loop-number.number-index c.args.order.now ≡ c.args.order.now = take_all c.loop-number.number-index c.args.order.now (omega arith) in
+    let carried = rw all at c.loop-number.invariant.carried in
     on_err _ _ (carries-stop _ _ _ [] _ text [] text carried c.in_err-close.ensures.front (sym (append-nil text)))

@@ -3,8 +3,8 @@ use Rattle.trace_csv.specs.Page.{Carries}
 use Rattle.trace_csv.specs.Vectors.{vectors_of, vectors_text}
 use Rattle.trace_csv.proofs.vectors.write_vectors.Given as goal
 
-abbrev pub invariant-loop-i : goal.invariant-loop-i
-invariant-loop-i g l = record {
-  carried : Carries (g.K.Sink.taken l.fn.sink) (g.K.Sink.taken l.sink) [] l.page (vectors_text (vectors_of l.slots l.flat (take l.i l.order)));
+abbrev pub invariant-loop-number : goal.invariant-loop-number
+invariant-loop-number g l = record {
+  carried : Carries (g.K.Sink.taken l.fn.sink) (g.K.Sink.taken l.sink) [] l.page (vectors_text (vectors_of l.slots l.flat (take l.number-index l.order)));
   later : g.K.Sink.faults l.fn.sink ≤ g.K.Sink.faults l.sink;
 }

@@ -1,10 +1,43 @@
-use Rattle.trace_csv.specs.Report.{summary_text}
-use Rattle.trace_csv.proofs.OutputLemmas.{front-of, front-after, on_err}
+use Rattle.std.proofs.Common.{◌≡◌, ◌∙◌, arith, ◌+◌, ◌++◌, [], List, ℕ, length, take, drop, get_or, ap, refl, sym, append_assoc}
+use Rattle.std.proofs.lemmas.List.{append-nil, take_all}
+use Rattle.trace_csv.specs.Report.{report, reply_line, reply_lines, summary_text}
+use Rattle.trace_csv.proofs.OutputLemmas.{on_err}
+use Rattle.trace_csv.proofs.PageLemmas.{carries-add, carries-none, carries-room, carries-stop}
+use Rattle.trace_csv.proofs.ReportLemmas.{lines-next, lines-none, lines-split}
 use Rattle.trace_csv.proofs.report.text.write_report.Goals as goal
 
-pub returns-in_err-put_replies-clause-front : goal.returns-in_err-put_replies-clause-front
-returns-in_err-put_replies-clause-front g c = on_err _ _ (front-of _ _ _ (summary_text c.args.summary.now) c.in_err-put_replies.ensures.front)
+pub loop-i-init : goal.loop-i-init
+loop-i-init g c = record { carried = rw (lines-none 0) (carries-none _ _ c.new-page.ensures); later = omega arith }
 
-pub returns-in_err-write_summary-clause-front : goal.returns-in_err-write_summary-clause-front
-returns-in_err-write_summary-clause-front g c =
-    on_err _ _ (front-after _ _ _ _ _ c.in_ok-put_replies.ensures.ok c.in_err-write_summary.ensures.front)
+pub returns-in_err-make_room-clause-front : goal.returns-in_err-make_room-clause-front
+returns-in_err-make_room-clause-front g c =
+    let replies = c.args.replies.now in
+    let i = c.loop-i.i in
+    let end = summary_text c.args.summary.now in
+    let whole : report replies c.args.summary.now ≡ reply_lines 0 (take i replies) ++ (reply_lines i (drop i replies) ++ end) =
+    ap (λ (t : List ℕ). t ++ end) (lines-split replies i (omega arith)) ∙ append_assoc (reply_lines 0 (take i replies)) (reply_lines i (drop i replies)) end in
+    on_err _ _ (carries-stop _ _ _ [] _ _ _ _ c.loop-i.invariant.carried c.in_err-make_room.ensures.front whole)
+
+pub loop-i-preserved : goal.loop-i-preserved
+loop-i-preserved g c = record {
+  carried = lines-next _ _ _ c.make_room.new.page c.add_reply.new.page c.args.replies.now c.loop-i.i _ (omega arith)
+      (carries-room _ _ _ _ _ _ _ c.loop-i.invariant.carried c.in_ok-make_room.ensures.ok) c.add_reply.ensures;
+  later = omega (arith, c.in_ok-make_room.ensures.cause.later);
+}
+
+pub returns-in_err-make_room-2-clause-front : goal.returns-in_err-make_room-2-clause-front
+returns-in_err-make_room-2-clause-front g c =
+    let replies = c.args.replies.now in
+    let all : take c.loop-i.i replies ≡ replies = take_all c.loop-i.i replies (omega arith) in
+    let carried = rw all at c.loop-i.invariant.carried in
+    on_err _ _ (carries-stop _ _ _ [] _ (reply_lines 0 replies) (summary_text c.args.summary.now) (report replies c.args.summary.now) carried c.in_err-make_room-2.ensures.front refl)
+
+pub returns-in_err-close-clause-front : goal.returns-in_err-close-clause-front
+returns-in_err-close-clause-front g c =
+    let replies = c.args.replies.now in
+    let text = report replies c.args.summary.now in
+    let all : take c.loop-i.i replies ≡ replies = take_all c.loop-i.i replies (omega arith) in
+    let carried = rw all at c.loop-i.invariant.carried in
+    on_err _ _ (carries-stop _ _ _ [] _ text [] text
+    (carries-add _ _ _ c.make_room-2.new.page c.add_summary.new.page _ _ (carries-room _ _ _ _ _ _ _ carried c.in_ok-make_room-2.ensures.ok) c.add_summary.ensures)
+    c.in_err-close.ensures.front (sym (append-nil text)))
