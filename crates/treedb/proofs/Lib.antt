@@ -1,3 +1,4 @@
-pub mod PairLemmas
-pub mod AgreeLemmas
-pub mod RunLemmas
+pub mod LineLemmas
+pub mod OfferLemmas
+pub mod Stores
+pub mod Outcomes

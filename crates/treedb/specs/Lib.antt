@@ -1,3 +1,10 @@
-pub mod Choice
-pub mod Run
+pub mod Offered
+pub mod Lines
 pub mod Pairs
+pub mod Stored
+pub mod Answered
+pub mod Run
+pub mod Note
+pub mod Reading
+pub mod Outcome
+pub mod Writing

@@ -1,20 +1,30 @@
 -- What a run of the program leaves behind.
-use Rattle.std.specs.Prelude.{◌≡◌, ◌<◌, ◌↔◌, ◌+◌, ◌*◌, ◌^◌, ◌==◌, ℕ, Bool, true, false, List, [], ◌∷◌, Option, Some, None, Result, Ok, Err, length, IfSome, if◌then◌else◌, option_and_then}
+use Rattle.std.specs.Prelude.{◌≡◌, ◌<◌, ◌↔◌, ℕ, Bool, true, false, List, [], Option, Some, None, length, option_and_then}
 use Rattle.std.specs.Io.KnownBytes.{Consumes, Appends}
-use Rattle.std.specs.List.{list_all, list_any, range_with_len}
+use Rattle.std.specs.List.{list_any, range_with_len}
 use Rattle.tdb_base.specs.Agrees.{Agrees}
-use Rattle.tdb_base.specs.History.{Vector, History, name_of}
+use Rattle.tdb_base.specs.History.{Vector, History}
+use Rattle.tdb_base.specs.Lines.{named}
 use Rattle.tdb_base.specs.Replies.{is_full}
 use Rattle.tdb_base.specs.declared.reply.Reply.{Reply}
 use Rattle.tdb_base.specs.declared.reply.Status.{Status}
 use Rattle.tdb_base.specs.declared.reply.Status.TheVariants as s
 use Rattle.trace_csv.specs.Input.{limit}
 use Rattle.trace_csv.specs.Output.{TakesFront}
-use Rattle.trace_csv.specs.Report.{report, summary_of}
-use Rattle.trace_csv.specs.Trace.{Unsigned, trace_of}
-use Rattle.treedb.specs.Choice.{Choice, Mode, compact, chosen}
+use Rattle.trace_csv.specs.Report.{report, summary_of, summary_text}
+use Rattle.trace_csv.specs.Sorted.{IsSortedText}
+use Rattle.trace_csv.specs.declared.report.Stats.{Stats}
+use Rattle.command_line.specs.declared.outcome.Job.{Job}
+use Rattle.command_line.specs.declared.outcome.Job.TheVariants.{Insert, Distinct, Bench}
+use Rattle.command_line.specs.declared.outcome.Mode.{Mode}
+use Rattle.command_line.specs.declared.outcome.Mode.TheVariants.{Plain, Compact}
+use Rattle.command_line.specs.declared.outcome.Choice.{Choice}
+use Rattle.treedb.specs.Lines.{IsTraceFor, valid_lines}
+use Rattle.treedb.specs.Offered.{flag_count}
+use Rattle.treedb.specs.Pairs.{IsOfPairs}
+use Rattle.treedb.specs.Stored.{InStore}
 
--- the run wrote its whole report
+-- the run wrote its whole text
 abbrev pub is_printed : Status → Bool
 is_printed s.Done = true
 is_printed s.Full = true
@@ -25,7 +35,7 @@ is_printed s.ReadFault = false
 is_printed s.WriteFault = false
 is_printed s.NoMemory = false
 
--- the run read its input to the end
+-- the run read its input to the end, if it reads one
 abbrev pub reads_to_end : Status → Bool
 reads_to_end s.Done = true
 reads_to_end s.Full = true
@@ -42,61 +52,51 @@ pub record GivesWithin (old new : Option (List ℕ)) (status : Status) : Type 0 
   pub given : Consumes old new gave
   pub too_much : (status ≡ s.TooMuch) ↔ (limit < length gave)
 
--- the lines that a mode takes: in compact mode those of two slots
-abbrev pub takes_lines : Mode → List Vector → Bool
-takes_lines compact lines = list_all (λ v. length v == 2) lines
+-- what stands behind the replies: a plain store, or pairs
+abbrev pub IsOfMode : Mode → Choice → List Vector → List Reply → History → Option Stats → Type 0
+IsOfMode Plain c trace replies h stats = InStore c trace replies h stats
+IsOfMode Compact c trace replies h stats = IsOfPairs c.profile replies h × (stats ≡ None)
 
--- the lines, where the mode takes them
-abbrev pub taken_lines : {E : Type 0} → Mode → Result (List Vector) E → Option (List Vector)
-taken_lines mode (Ok lines) = if takes_lines mode lines then Some lines else None
-taken_lines mode (Err refusal) = None
-
--- the lines of a valid input
-abbrev pub valid_lines : Choice → List ℕ → Option (List Vector)
-valid_lines choice bytes = taken_lines choice.mode (trace_of (Unsigned choice.width) bytes)
-
--- the identifier of a pair in compact mode: its two slots as one number
-abbrev pub packed : ℕ → Vector → Option ℕ
-packed width (left ∷ right ∷ []) = Some (left * 2 ^ width + right)
-packed width _ = None
-
--- what compact mode keeps while no table stands under it: no line is full, and each name is its pair
-pub record IsOfPairs (width : ℕ) (replies : List Reply) (history : History) : Type 0 where
-  pub never_full : list_any is_full replies ≡ false
-  pub pairs : (v : Vector) (id : ℕ) → name_of history v ≡ Some id → packed width v ≡ Some id
-
-abbrev pub IsOfMode : Mode → ℕ → List Reply → History → Type 0
-IsOfMode compact width replies history = IsOfPairs width replies history
-
--- a run of the words over the input that a source tells: the lines of its trace, a reply for each, and the one history that the replies form
-pub record Run (words : List (List ℕ)) (told : Option (List ℕ)) : Type 0 where
+-- a run of a choice over the input that a source tells: its lines, a reply for each, and the one history that the replies form
+pub record Run (offer : Option Choice) (told : Option (List ℕ)) : Type 0 where
   pub choice : Choice
   pub trace : List Vector
   pub replies : List Reply
   pub history : History
-  pub chose : chosen words ≡ Some choice
-  pub read : IfSome told (λ bytes. valid_lines choice bytes ≡ Some trace)
-  pub agrees : Agrees choice.flag_count trace replies choice.workers choice.block [] history (range_with_len 0 choice.workers)
-  pub of_mode : IsOfMode choice.mode choice.width replies history
+  pub stats : Option Stats
+  pub chose : offer ≡ Some choice
+  pub read : IsTraceFor choice told choice.job trace
+  pub agrees : Agrees (flag_count choice.profile) trace replies choice.workers choice.block [] history (range_with_len 0 choice.workers)
+  pub of_mode : IsOfMode choice.mode choice trace replies history stats
 
--- the report of a run
-abbrev pub report_of : {words : List (List ℕ)} {told : Option (List ℕ)} → Run words told → List ℕ
-report_of run = report run.replies (summary_of run.replies None)
+-- the text that a job writes: the report, the summary alone, or the vectors that have names in rising order
+abbrev pub IsText : Job → List Reply → History → Option Stats → List ℕ → Type 0
+IsText Insert replies h stats text = text ≡ report replies (summary_of replies stats)
+IsText Distinct replies h stats text = IsSortedText (named h) text
+IsText Bench replies h stats text = text ≡ summary_text (summary_of replies stats)
 
--- the sink took the report of a run
-pub record Prints (words : List (List ℕ)) (told old new : Option (List ℕ)) : Type 0 where
-  pub run : Run words told
-  pub text : Appends old new (report_of run)
+abbrev pub IsTextOf : {offer : Option Choice} {told : Option (List ℕ)} → Run offer told → List ℕ → Type 0
+IsTextOf run text = IsText run.choice.job run.replies run.history run.stats text
 
--- this holds of every run whose report is what the sink took
-abbrev pub OfPrinted : (words : List (List ℕ)) (told old new : Option (List ℕ)) → (Run words told → Type 0) → Type 0
-OfPrinted words told old new P = (run : Run words told) → Appends old new (report_of run) → P run
+-- the sink took the text of a run, which is answered `Full` exactly where some line is full
+pub record Prints (offer : Option Choice) (told old new : Option (List ℕ)) (status : Status) : Type 0 where
+  pub run : Run offer told
+  pub text : List ℕ
+  pub is_text : IsTextOf run text
+  pub taken : Appends old new text
+  pub full : (status ≡ s.Full) ↔ (list_any is_full run.replies ≡ true)
 
--- the sink took a front of the report of a run
-pub record PrintsFront (words : List (List ℕ)) (told old new : Option (List ℕ)) : Type 0 where
-  pub run : Run words told
-  pub text : TakesFront old new (report_of run)
+-- this holds of every run whose text is what the sink took
+abbrev pub OfPrinted : (offer : Option Choice) (told old new : Option (List ℕ)) → (Run offer told → List ℕ → Type 0) → Type 0
+OfPrinted offer told old new P = (run : Run offer told) (text : List ℕ) → IsTextOf run text → Appends old new text → P run text
 
--- the lines of a valid input for some words
-abbrev pub valid_input : List (List ℕ) → List ℕ → Option (List Vector)
-valid_input words bytes = option_and_then (λ choice. valid_lines choice bytes) (chosen words)
+-- the sink took a front of the text of a run
+pub record PrintsFront (offer : Option Choice) (told old new : Option (List ℕ)) : Type 0 where
+  pub run : Run offer told
+  pub text : List ℕ
+  pub is_text : IsTextOf run text
+  pub taken : TakesFront old new text
+
+-- the lines of a valid input
+abbrev pub valid_input : Option Choice → List ℕ → Option (List Vector)
+valid_input offer bytes = option_and_then (λ c. valid_lines c bytes) offer

@@ -1,0 +1,34 @@
+-- Which of the choices that words can make the program offers.
+use Rattle.std.specs.Prelude.{◌==◌, ◌&&◌, ℕ, Bool, true, false, not, List, Option, Some, None, if◌then◌else◌, option_and_then}
+use Rattle.clap.specs.Words.{Text}
+use Rattle.command_line.specs.Choose.{chosen}
+use Rattle.command_line.specs.Rules.{is_compact}
+use Rattle.command_line.specs.declared.outcome.Job.{Job}
+use Rattle.command_line.specs.declared.outcome.Job.TheVariants.{Insert, Distinct, Bench}
+use Rattle.command_line.specs.declared.outcome.Choice.{Choice}
+
+-- how many flags a vector has, by the bits of its slots
+abbrev pub flag_count : ℕ → ℕ
+flag_count width = if width == 16 then 8 else (if width == 28 then 7 else 1)
+
+abbrev pub is_insert : Job → Bool
+is_insert Insert = true
+is_insert Distinct = false
+is_insert Bench = false
+
+abbrev pub is_distinct : Job → Bool
+is_distinct Insert = false
+is_distinct Distinct = true
+is_distinct Bench = false
+
+-- as yet no vectors are printed; and in compact mode one worker inserts lines, and no statistics are told
+abbrev pub is_offered : Choice → Bool
+is_offered c = if is_compact c.mode then is_insert c.job && ((c.workers == 1) && not c.stats) else not (is_distinct c.job)
+
+-- the choice of some words, if it is offered
+abbrev pub offered : List Text → Option Choice
+offered words = option_and_then (λ c. if is_offered c then Some c else None) (chosen words)
+
+-- and if it is one of plain mode
+abbrev pub offered_plain : List Text → Option Choice
+offered_plain words = option_and_then (λ c. if is_offered c && not (is_compact c.mode) then Some c else None) (chosen words)

@@ -1,0 +1,150 @@
+//! Plain mode: the lines of a trace are inserted into a store whose roots stand in a plain table.
+ghost use Rattle.std.specs.Prelude.{◌≡◌, ◌≤◌, ◌<◌, ◌^◌, All, IfOk, false, length};
+ghost use Rattle.packed_word.specs.Word.{IsLayout};
+ghost use Rattle.pair_rule.specs.Laws.{IsAbout};
+ghost use Rattle.pair_rule.specs.Rest.{Whole, view};
+ghost use Rattle.pair_rule.specs.View.{newcomer};
+ghost use Rattle.root_plain.specs.Plain.{no_roots, sized, count};
+ghost use Rattle.root_plain.specs.Plays.{Rests};
+ghost use Rattle.tree_store.specs.Ranges.{NodesFit, RootsFit, ProbeFits};
+ghost use Rattle.command_line.specs.Sizes.{AreTableSizes};
+ghost use Rattle.command_line.specs.Valid.{IsValid};
+ghost use Rattle.treedb.specs.Offered.{flag_count};
+ghost use Rattle.treedb.specs.Answered.{IsAnswered, AreSizesOf, CountsOf};
+ghost use Rattle.treedb.specs.Stored.{AreTold};
+
+use command_line::{Choice, Mode, sizes};
+use pair_rule::Sizes;
+use root_plain::PlainRoot;
+use std::alloc::Global;
+use std::thread::Threads;
+use tdb_base::{Gate, NoMemory, Reply};
+use trace_csv::{Stats, Trace};
+use tree_shape::Shape;
+use tree_store::{CreateError, PlainPass, PlainStore, TreeStore};
+use work_run::run_lines;
+
+/// The reply to each line, and the counts of the store, if they are asked for.
+#[derive(Drop)]
+pub struct Answered {
+    pub replies: Vec<Reply>,
+    pub stats: Option<Stats>,
+}
+
+// The sizes of the tables of a choice.
+fn store_sizes(choice: &Choice, slots: usize, lines: u64) -> Sizes
+    requires { IsValid choice.now }
+    ensures sizes { AreSizesOf choice.now slots lines result }
+    ensures nodes { NodesFit choice.now.profile result }
+    ensures roots { RootsFit result }
+    ensures probe { ProbeFits result }
+{
+    let sizes = sizes(choice, slots, lines);
+    Sizes {
+        nodes: sizes.nodes,
+        roots: sizes.roots,
+        region: sizes.region,
+        probe: sizes.probe,
+    }
+}
+
+// An empty store, and its first pass.
+fn make_store<const W: u32, const F: u32>(
+    alloc: Global,
+    slots: usize,
+    sizes: &Sizes,
+) -> Result<(PlainStore<W, F>, PlainPass<W, F>), NoMemory>
+    requires layout { IsLayout W F }
+    requires slots { (2 ≤ slots) × (slots ≤ 1024) }
+    requires nodes { NodesFit W sizes.now }
+    requires roots { RootsFit sizes.now }
+    requires probe { ProbeFits sizes.now }
+    ensures about { IfOk result (λ made. IsAbout W F sized count made.0.nodes.table.about × (made.0.nodes.table.about.sizes ≡ sizes.now) × (made.0.nodes.table.about.slots ≡ slots)) }
+    ensures view { IfOk result (λ made. view made.1 ≡ newcomer no_roots made.0.nodes.table.about) }
+    ensures whole { IfOk result (λ made. Whole (view made.1)) }
+    ensures rest { IfOk result (λ made. Rests made.0.nodes.table.table.shared.table_id made.0.nodes.table.about made.1) }
+{
+    let Ok(shape) = Shape::new(slots) else {
+        unreachable!()
+    };
+    match TreeStore::<PlainRoot<W, F>, W, F>::create(alloc, shape, sizes) {
+        Ok(made) => Ok(made),
+        Err(CreateError::NoMemory) => Err(NoMemory),
+        Err(CreateError::Sizes(_)) => unreachable!(),
+    }
+}
+
+// The counts of the store as the pass tells them, if they are asked for.
+fn stats_of<const W: u32, const F: u32>(
+    store: &PlainStore<W, F>,
+    pass: &PlainPass<W, F>,
+    asked: bool,
+) -> Option<Stats>
+    requires { Rests store.now.nodes.table.table.shared.table_id store.now.nodes.table.about pass.now }
+    ensures { AreTold asked result (CountsOf store.now.nodes.table.about (view pass.now)) }
+{
+    if !asked {
+        return None;
+    }
+    Some(Stats {
+        nodes: store.nodes_made(pass),
+        stored: store.stored_bytes(pass),
+        raw: store.raw_bytes(pass),
+    })
+}
+
+// Inserts the lines into a new store of this profile.
+fn insert_into<R: Threads + Sync, G: Gate, const W: u32, const F: u32>(
+    rt: &R,
+    alloc: Global,
+    choice: &Choice,
+    trace: &Trace,
+    gate: &G,
+) -> Result<Answered, NoMemory>
+    requires valid { IsValid choice.now }
+    requires plain { choice.now.mode ≡ Mode.Plain }
+    requires profile { (choice.now.profile ≡ W) × (F ≡ flag_count W) }
+    requires layout { IsLayout W F }
+    requires lines { length trace.now ≤ 2 ^ 32 }
+    requires below { All (λ line. All (λ n. n < 2 ^ W) line) trace.now }
+    ensures { IfOk result (IsAnswered choice.now trace.now) }
+{
+    let slots = trace.slots();
+    let sizes = store_sizes(choice, slots, trace.len());
+    let (store, mut pass) = make_store::<W, F>(alloc, slots, &sizes)?;
+    let replies = run_lines(
+        rt,
+        alloc,
+        &store,
+        &mut pass,
+        trace,
+        choice.workers,
+        choice.block,
+        gate,
+    )?;
+    let stats = stats_of(&store, &pass, choice.stats);
+    Ok(Answered { replies, stats })
+}
+
+/// Inserts the lines of a trace into a new plain store of the choice's profile and sizes: the reply to each line.
+///
+/// `NoMemory` comes before the first line is inserted.
+pub fn insert_plain<R: Threads + Sync, G: Gate>(
+    rt: &R,
+    alloc: Global,
+    choice: &Choice,
+    trace: &Trace,
+    gate: &G,
+) -> Result<Answered, NoMemory>
+    requires valid { IsValid choice.now }
+    requires plain { choice.now.mode ≡ Mode.Plain }
+    requires lines { length trace.now ≤ 2 ^ 32 }
+    requires below { All (λ line. All (λ n. n < 2 ^ choice.now.profile) line) trace.now }
+    ensures { IfOk result (IsAnswered choice.now trace.now) }
+{
+    match choice.profile {
+        16 => insert_into::<R, G, 16, 8>(rt, alloc, choice, trace, gate),
+        28 => insert_into::<R, G, 28, 7>(rt, alloc, choice, trace, gate),
+        _ => insert_into::<R, G, 31, 1>(rt, alloc, choice, trace, gate),
+    }
+}
