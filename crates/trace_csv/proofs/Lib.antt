@@ -11,3 +11,4 @@ pub mod SortedLemmas
 pub mod TraceLemmas
 pub mod VectorsLemmas
 pub mod WalkLemmas
+pub mod FewLines

@@ -43,7 +43,7 @@ step-between st.InComment c = either (c == 10) _ _ (λ e. tt) (λ e. cc e)
 step-between st.AfterCr c = either (c == 10) _ _ (λ e. tt) (start_record-between c)
 
 -- what is left after a record: the text is no longer, and shorter where there was some, and the state is between two records
-record Leaves (xs : List ℕ) (p : Read) : Type 0 where
+pub record Leaves (xs : List ℕ) (p : Read) : Type 0 where
   pub rest : IsBetween p.1
   pub no_longer : length p.2 ≤ length xs
   pub shorter : 0 < length xs → length p.2 < length xs
@@ -54,7 +54,7 @@ at-end true fields p e =
     subst (λ (x : Read). Leaves [] x) same (record { rest = tt; no_longer = omega arith; shorter = λ h. absurd (omega arith) })
 at-end false fields p e = cc e
 
-leaves : (xs : List ℕ) (s : State) (f : List (List ℕ)) (d : List ℕ) (p : Read) → next_record default_config s f d xs ≡ Some p → Leaves xs p
+pub leaves : (xs : List ℕ) (s : State) (f : List (List ℕ)) (d : List ℕ) (p : Read) → next_record default_config s f d xs ≡ Some p → Leaves xs p
 unfolding next_record
 leaves [] s f d p h = at-end (ends_at_end s) (f ++ (d ∷ [])) p h
 leaves (c ∷ rest) s f d p h = by (is_end (step default_config s c).1) refl h (leaves rest (step default_config s c).0 _ _ p)
@@ -73,7 +73,7 @@ leaves (c ∷ rest) s f d p h = by (is_end (step default_config s c).1) refl h (
         record { rest = later.rest; no_longer = omega arith; shorter = λ h. omega arith }
 
 -- between two records, a record that comes takes a byte
-not-empty : (s : State) (xs : List ℕ) (p : Read) → IsBetween s → next_record default_config s [] [] xs ≡ Some p → 0 < length xs
+pub not-empty : (s : State) (xs : List ℕ) (p : Read) → IsBetween s → next_record default_config s [] [] xs ≡ Some p → 0 < length xs
 unfolding next_record
 not-empty st.StartRecord [] p r e = cc e
 not-empty st.AfterCr [] p r e = cc e

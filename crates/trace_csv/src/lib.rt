@@ -17,6 +17,7 @@ mod rows;
 mod trace;
 mod vectors;
 mod walk;
+mod whole_text;
 
 pub use input::{InError, read_all};
 pub use output::WriteFault;
@@ -26,6 +27,7 @@ pub use report::{Stats, Summary, write_report, write_summary};
 pub use trace::Trace;
 pub use vectors::write_vectors;
 pub use walk::generate;
+pub use whole_text::write_text;
 
 #[cfg(test)]
 mod tests;

@@ -4,16 +4,18 @@ use Rattle.std.specs.Prelude.{◌==◌, All, IfSome, Result, Ok, Err}
 use Rattle.std.specs.List.{list_all}
 use Rattle.std.proofs.lemmas.Bool.{cases_eq}
 use Rattle.std.proofs.lemmas.List.Folds.{list_all_at}
-use Rattle.std.proofs.lemmas.List.Sums.{list_all-from_AllPass}
+use Rattle.std.proofs.lemmas.List.Sums.{AllPass-from_list_all, list_all-from_AllPass}
 use Rattle.tdb_base.specs.History.{Vector}
 use Rattle.trace_csv.specs.Trace.{Unsigned, trace_of}
 use Rattle.command_line.specs.declared.outcome.Mode.{Mode}
 use Rattle.command_line.specs.declared.outcome.Mode.TheVariants.{Plain, Compact}
 use Rattle.command_line.specs.declared.outcome.Choice.{Choice}
 use Rattle.treedb.specs.Lines.{read_lines, taken_lines, takes_lines}
+use Rattle.treedb.specs.Pairs.{IsPair}
 use Rattle.treedb.specs.Reading.{IsRefusedFor}
 use Rattle.treedb.specs.declared.ended.Refusal.{Refusal}
 use Rattle.treedb.specs.declared.ended.Refusal.TheVariants as r
+use Rattle.treedb.proofs.PairLemmas.{pairs-of}
 
 two_slots : (lines : List Vector) → All (λ v. length v ≡ 2) lines → list_all (λ v. length v == 2) lines ≡ true
 two_slots lines two = list_all-from_AllPass (λ (v : Vector). length v == 2) lines (λ k d h. is_two (get_or lines k d) (two k d h))
@@ -39,3 +41,10 @@ lines_read c bytes lines is taken = rw (is, taken) refl
 pub none_read : (c : Choice) (bytes : List ℕ) (refusal : Refusal) → IsRefusedFor c bytes refusal → read_lines c bytes ≡ None
 none_read c bytes (r.Trace error) is = rw is.0 refl
 none_read c bytes r.NotPairs is = rw (is.1, is.2) refl
+
+-- lines that compact mode takes are pairs
+pub pairs_taken : (width : ℕ) (lines : List Vector) → takes_lines Compact lines ≡ true → All (λ v. All (λ n. n < 2 ^ width) v) lines → All (IsPair width) lines
+pairs_taken width lines taken small = pairs-of width lines (λ k d h. two (get_or lines k d) (AllPass-from_list_all (λ (v : Vector). length v == 2) lines taken k d h)) small
+  where
+    two : (v : Vector) → (length v == 2) ≡ true → length v ≡ 2
+    two v h = grind arith

@@ -44,7 +44,7 @@ module _ {S K : Type 0} (c : Choice) (left : S → Option (List ℕ)) (source_fa
       → (status_of ended ≡ s.BadTrace → IfSome (left source) (λ bytes. valid_lines c bytes ≡ None))
       → (reads_to_end (status_of ended) ≡ true → is_reader c.job ≡ true → IsAtEnd (left source'))
       → IsDetail (Some c) (left source) (taken sink) (taken sink) ended
-      → Outcome (Some c) left source_faults taken sink_faults settled source source' sink sink ended
+      → Outcome (Some c) left source_faults taken sink_faults settled source source' sink sink (status_of ended) ended
   quiet ended silent unwritten taken_words drawn read gave bad at_end detail = record {
     usage = λ u. absurd (taken_words u);
     refused_words = λ n. cc n;
@@ -65,7 +65,7 @@ module _ {S K : Type 0} (c : Choice) (left : S → Option (List ℕ)) (source_fa
   -- a run that has no lines
   pub stopped : {T : Type 0} (ended : Ended) (result : Result T Ended) → result ≡ Err ended → EndsReading c (left source) ended → GaveWithin (left source) (left source') result
       → (result ≡ Err e.ReadFault → Rose (source_faults source) (source_faults source')) → (ReadsToEnd result → is_reader c.job ≡ true → IsAtEnd (left source'))
-      → (is_reader c.job ≡ false → source' ≡ source) → Outcome (Some c) left source_faults taken sink_faults settled source source' sink sink ended
+      → (is_reader c.job ≡ false → source' ≡ source) → Outcome (Some c) left source_faults taken sink_faults settled source source' sink sink (status_of ended) ended
   stopped (e.BadTrace refusal) result is ends gave fault at_end drawn =
       quiet (e.BadTrace refusal) refl (λ w. cc w) (λ u. cc u) drawn (λ r. cc r) (gives (left source) (left source') result s.BadTrace gave (λ t. cc t) (λ t. cc (t, is)))
       (λ b. invalid (left source) ends.0) (λ t. at_end (subst (λ (r : Result _ Ended). ReadsToEnd r) (sym is) tt)) (told (left source) ends.0)
@@ -90,7 +90,7 @@ module _ {S K : Type 0} (c : Choice) (left : S → Option (List ℕ)) (source_fa
 
   -- a run that has lines, and no memory for more
   pub out_of_memory : {T : Type 0} (lines : T) (result : Result T Ended) → result ≡ Ok lines → GaveWithin (left source) (left source') result
-      → (is_reader c.job ≡ false → source' ≡ source) → Outcome (Some c) left source_faults taken sink_faults settled source source' sink sink e.NoMemory
+      → (is_reader c.job ≡ false → source' ≡ source) → Outcome (Some c) left source_faults taken sink_faults settled source source' sink sink s.NoMemory e.NoMemory
   out_of_memory lines result is gave drawn =
       quiet e.NoMemory refl (λ w. cc w) (λ u. cc u) drawn (λ r. cc r) (gives (left source) (left source') result s.NoMemory gave (λ t. cc t) (λ t. cc (t, is))) (λ b. cc b) (λ t. cc t) tt
 
@@ -115,22 +115,22 @@ is_text Insert replies h stats other = refl
 is_text Distinct replies h stats other = absurd (other refl)
 is_text Bench replies h stats other = refl
 
-module _ {S K : Type 0} (c : Choice) (left : S → Option (List ℕ)) (source_faults : S → ℕ) (taken : K → Option (List ℕ)) (sink_faults : K → ℕ) (settled : K → Bool) (source source' : S) (sink sink' : K)
+module _ {S K : Type 0} (c : Choice) (left : S → Option (List ℕ)) (source_faults : S → ℕ) (taken : K → Option (List ℕ)) (sink_faults : K → ℕ) (settled : K → Bool) (source source' : S) (sink sink' : K) (some : 0 < c.workers)
     {T : Type 0} (lines : T) (result : Result T Ended) (is : result ≡ Ok lines) (gave : GaveWithin (left source) (left source') result)
     (at_end : is_reader c.job ≡ true → IsAtEnd (left source')) (drawn : is_reader c.job ≡ false → source' ≡ source)
     (trace : List Vector) (replies : List Reply) (history : History) (stats : Option Stats) (told : IsTraceFor c (left source) c.job trace)
     (agrees : Agrees (flag_count c.profile) trace replies c.workers c.block [] history (range_with_len 0 c.workers)) (of_mode : IsOfMode c.mode c trace replies history stats) where
   run_of : Run (Some c) (left source)
-  run_of = record { choice = c; trace = trace; replies = replies; history = history; stats = stats; chose = refl; read = told; agrees = agrees; of_mode = of_mode }
+  run_of = record { choice = c; trace = trace; replies = replies; history = history; stats = stats; chose = refl; some = some; read = told; agrees = agrees; of_mode = of_mode }
 
   within : (status : Status) → status ≢ s.TooMuch → GivesWithin (left source) (left source') status
   within status other = gives (left source) (left source') result status gave (λ t. absurd (other t)) (λ t. cc (t, is))
 
   -- a run that wrote its whole text
   whole : (ended : Ended) (text : List ℕ) → IsText c.job replies history stats text → Appends (taken sink) (taken sink') text → (n : ℕ) → count_by is_full replies ≡ n → ended ≡ ended_with_full n → settled sink' ≡ true
-      → Outcome (Some c) left source_faults taken sink_faults settled source source' sink sink' ended
+      → Outcome (Some c) left source_faults taken sink_faults settled source source' sink sink' (status_of ended) ended
   unfolding run_of
-  whole ended text writes appends zero count ends settles = subst (λ (x : Ended). Outcome (Some c) left source_faults taken sink_faults settled source source' sink sink' x) (sym ends) (record {
+  whole ended text writes appends zero count ends settles = subst (λ (x : Ended). Outcome (Some c) left source_faults taken sink_faults settled source source' sink sink' (status_of x) x) (sym ends) (record {
     usage = λ u. cc u;
     refused_words = λ n. cc n;
     unread = λ u. cc u;
@@ -146,7 +146,7 @@ module _ {S K : Type 0} (c : Choice) (left : S → Option (List ℕ)) (source_fa
     prints = λ p. record { run = run_of; text = text; is_text = writes; taken = appends; full = (λ f. cc f, λ f. let none = (any_full replies).0 count in cc (f, none)) };
     detail = tt;
   })
-  whole ended text writes appends (suc n) count ends settles = subst (λ (x : Ended). Outcome (Some c) left source_faults taken sink_faults settled source source' sink sink' x) (sym ends) (
+  whole ended text writes appends (suc n) count ends settles = subst (λ (x : Ended). Outcome (Some c) left source_faults taken sink_faults settled source source' sink sink' (status_of x) x) (sym ends) (
     let printed : Prints (Some c) (left source) (taken sink) (taken sink') s.Full = record { run = run_of; text = text; is_text = writes; taken = appends; full = (λ f. (any_full replies).1 n count, λ f. refl) } in
     record {
     usage = λ u. cc u;
@@ -167,9 +167,9 @@ module _ {S K : Type 0} (c : Choice) (left : S → Option (List ℕ)) (source_fa
 
   -- a run that wrote a front of its text
   broken : (ended : Ended) (text : List ℕ) → IsText c.job replies history stats text → TakesFront (taken sink) (taken sink') text → ended ≡ e.WriteFault → Rose (sink_faults sink) (sink_faults sink')
-      → Outcome (Some c) left source_faults taken sink_faults settled source source' sink sink' ended
+      → Outcome (Some c) left source_faults taken sink_faults settled source source' sink sink' (status_of ended) ended
   unfolding run_of
-  broken ended text writes front ends rose = subst (λ (x : Ended). Outcome (Some c) left source_faults taken sink_faults settled source source' sink sink' x) (sym ends) (record {
+  broken ended text writes front ends rose = subst (λ (x : Ended). Outcome (Some c) left source_faults taken sink_faults settled source source' sink sink' (status_of x) x) (sym ends) (record {
     usage = λ u. cc u;
     refused_words = λ n. cc n;
     unread = λ u. cc u;
@@ -187,7 +187,7 @@ module _ {S K : Type 0} (c : Choice) (left : S → Option (List ℕ)) (source_fa
   })
 
   pub written : (ended : Ended) → c.job ≢ Distinct → WritesAnswers c.job replies stats (taken sink) (taken sink') ended → (ended ≢ e.WriteFault → settled sink' ≡ true) → (ended ≡ e.WriteFault → Rose (sink_faults sink) (sink_faults sink'))
-      → Outcome (Some c) left source_faults taken sink_faults settled source source' sink sink' ended
+      → Outcome (Some c) left source_faults taken sink_faults settled source source' sink sink' (status_of ended) ended
   written ended other writes settles fault = ⊎_elim
       (λ (w : Appends (taken sink) (taken sink') (text_of c.job replies stats) × (ended ≡ ended_with replies)).
       whole ended (text_of c.job replies stats) (is_text c.job replies history stats other) w.0 (count_by is_full replies) refl w.1 (settles (λ x. with_no_fault (count_by is_full replies) (sym w.1 ∙ x))))

@@ -65,6 +65,7 @@ pub record Run (offer : Option Choice) (told : Option (List ℕ)) : Type 0 where
   pub history : History
   pub stats : Option Stats
   pub chose : offer ≡ Some choice
+  pub some : 0 < choice.workers
   pub read : IsTraceFor choice told choice.job trace
   pub agrees : Agrees (flag_count choice.profile) trace replies choice.workers choice.block [] history (range_with_len 0 choice.workers)
   pub of_mode : IsOfMode choice.mode choice trace replies history stats

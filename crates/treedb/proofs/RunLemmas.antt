@@ -1,0 +1,32 @@
+-- The plain sentences on a run.
+use Rattle.std.proofs.Common.{ℕ, List, [], Option}
+use Rattle.std.specs.List.{range_with_len}
+use Rattle.tdb_base.specs.Headline.{CountsDistinct, CountsNames, DifferentLinesDifferentIds, EachNewOnce, EqualLinesEqualIds}
+use Rattle.tdb_base.specs.Legal.{KeepsNames}
+use Rattle.tdb_base.proofs.HeadlineLemmas.{counts-distinct, counts-names, different-lines, each-new-once, equal-lines}
+use Rattle.tdb_base.proofs.NameLemmas.{keeps-names}
+use Rattle.command_line.specs.declared.outcome.Choice.{Choice}
+use Rattle.treedb.specs.Offered.{flag_count}
+use Rattle.treedb.specs.Run.{Run}
+
+module _ (offer : Option Choice) (told : Option (List ℕ)) (run : Run offer told) where
+  abbrev workers : List ℕ
+  workers = range_with_len 0 run.choice.workers
+
+  pub run_equal : EqualLinesEqualIds run.trace run.replies
+  run_equal = equal-lines (flag_count run.choice.profile) run.trace run.replies run.choice.workers run.choice.block [] run.history workers run.agrees.among run.some
+
+  pub run_different : DifferentLinesDifferentIds run.trace run.replies
+  run_different = different-lines (flag_count run.choice.profile) run.trace run.replies run.choice.workers run.choice.block [] run.history workers run.agrees.among run.some
+
+  pub run_names : CountsNames run.replies run.history
+  run_names = counts-names (flag_count run.choice.profile) run.trace run.replies run.choice.workers run.choice.block run.history workers run.agrees run.some
+
+  pub run_once : EachNewOnce run.trace run.replies
+  run_once = each-new-once (flag_count run.choice.profile) run.trace run.replies run.choice.workers run.choice.block run.history workers run.agrees run.some
+
+  pub run_distinct : CountsDistinct run.trace run.replies
+  run_distinct = counts-distinct (flag_count run.choice.profile) run.trace run.replies run.choice.workers run.choice.block run.history workers run.agrees run.some
+
+  pub run_keeps : KeepsNames (flag_count run.choice.profile) run.history
+  run_keeps = keeps-names (flag_count run.choice.profile) run.history
