@@ -12,12 +12,14 @@ mod report;
 mod rows;
 mod short_text;
 mod trace;
+mod whole_text;
 
 pub use input::{InError, read_all};
 pub use read::read_trace;
 pub use refusal::TraceError;
 pub use report::{Stats, Summary, WriteFault, write_report, write_summary};
 pub use trace::Trace;
+pub use whole_text::write_text;
 
 #[cfg(test)]
 mod tests;
