@@ -1,3 +1,4 @@
 pub mod Choice
 pub mod Run
 pub mod Pairs
+pub mod Note

@@ -1,6 +1,10 @@
 //! The program over a store of state vectors: it reads a trace from standard input and writes a report to standard output.
 #![tactic(auto)]
 
+mod ended;
+#[cfg(test)]
+mod note_tests;
+mod notes;
 mod pairs;
 mod run;
 #[cfg(test)]

@@ -1,0 +1,57 @@
+-- How a run ends: its status, and the note line that tells of it.
+use Rattle.std.specs.Prelude.{ℕ, List, [], ◌++◌, codes}
+use Rattle.std.specs.Fmt.{decimal}
+use Rattle.tdb_base.specs.declared.reply.Status.{Status}
+use Rattle.tdb_base.specs.declared.reply.Status.TheVariants as s
+use Rattle.trace_csv.specs.declared.refusal.TraceError.{TraceError}
+use Rattle.trace_csv.specs.declared.refusal.TraceError.TheVariants as t
+use Rattle.treedb.specs.declared.ended.Ended.{Ended}
+use Rattle.treedb.specs.declared.ended.Ended.TheVariants as e
+use Rattle.treedb.specs.declared.ended.Refusal.{Refusal}
+use Rattle.treedb.specs.declared.ended.Refusal.TheVariants as r
+
+-- the status that a run is answered
+abbrev pub status_of : Ended → Status
+status_of e.Done = s.Done
+status_of e.Usage = s.Usage
+status_of (e.BadTrace refusal) = s.BadTrace
+status_of e.TooMuch = s.TooMuch
+status_of (e.Full lines) = s.Full
+status_of e.ReadFault = s.ReadFault
+status_of e.WriteFault = s.WriteFault
+status_of e.NoMemory = s.NoMemory
+
+-- how the words of the command line are written
+unfoldable pub usage : List ℕ
+usage =
+    codes "usage: treedb insert|distinct|bench [--mode plain|compact] [--profile 16|28|31]\n"
+    ++ codes "  [--workers N] [--block N] [--nodes D] [--roots R] [--region S] [--probe P]\n"
+    ++ codes "  [--stats] [--lines N] [--slots K] [--values M] [--seed S]\n"
+
+abbrev pub no_memory : List ℕ
+no_memory = codes "treedb: no memory\n"
+
+-- why the bytes write no trace; want of memory is no such reason, and is never told here
+abbrev pub trace_text : TraceError → List ℕ
+trace_text (t.NotANumber row field) = codes "treedb: record " ++ decimal row ++ codes " field " ++ decimal field ++ codes " is not a number\n"
+trace_text (t.TooBig row field) = codes "treedb: record " ++ decimal row ++ codes " field " ++ decimal field ++ codes " is too big\n"
+trace_text (t.Ragged row fields first) = codes "treedb: record " ++ decimal row ++ codes " has " ++ decimal fields ++ codes " fields, the first has " ++ decimal first ++ codes "\n"
+trace_text (t.Length row fields) = codes "treedb: record " ++ decimal row ++ codes " has " ++ decimal fields ++ codes " fields, 2 to 1024 are allowed\n"
+trace_text t.NoRecords = codes "treedb: no records\n"
+trace_text t.NoMemory = no_memory
+
+-- why some bytes are no trace that the program takes
+abbrev pub refusal_text : Refusal → List ℕ
+refusal_text (r.Trace error) = trace_text error
+refusal_text r.NotPairs = codes "treedb: compact mode takes 2 slots\n"
+
+-- the note: what a run's end writes to standard error
+abbrev pub note_text : Ended → List ℕ
+note_text e.Done = []
+note_text e.Usage = usage
+note_text (e.BadTrace refusal) = refusal_text refusal
+note_text e.TooMuch = codes "treedb: input is over 67108864 bytes\n"
+note_text (e.Full lines) = codes "treedb: " ++ decimal lines ++ codes " lines full\n"
+note_text e.ReadFault = codes "treedb: read fault\n"
+note_text e.WriteFault = codes "treedb: write fault\n"
+note_text e.NoMemory = no_memory

@@ -1,0 +1,53 @@
+ghost use Rattle.std.specs.Prelude.{◌≡◌};
+ghost use Rattle.treedb.specs.Note.{status_of};
+
+use tdb_base::Status;
+use trace_csv::TraceError;
+
+/// Why some bytes are no trace that the program takes.
+#[derive(Clone, Copy, Debug, PartialEq, Eq)]
+pub enum Refusal {
+    /// They write no trace, as `read_trace` refuses them; never its `NoMemory`.
+    Trace(TraceError),
+    /// Their vectors have other than two slots, which compact mode doesn't take as yet.
+    NotPairs,
+}
+
+/// How a run ended, with what its note tells.
+#[derive(Clone, Copy, Debug, PartialEq, Eq)]
+pub enum Ended {
+    /// The report was written, and no line was answered full.
+    Done,
+    /// The words of the command line are faulty.
+    Usage,
+    /// The input is no trace.
+    BadTrace(Refusal),
+    /// The input is over the limit.
+    TooMuch,
+    /// The report was written, and so many lines, at least one, were answered full.
+    Full(u64),
+    /// The source failed.
+    ReadFault,
+    /// The sink failed.
+    WriteFault,
+    /// Memory ran out.
+    NoMemory,
+}
+
+impl Ended {
+    /// The status that the run is answered.
+    pub fn status(&self) -> Status
+        ensures { result ≡ status_of self.now }
+    {
+        match self {
+            Ended::Done => Status::Done,
+            Ended::Usage => Status::Usage,
+            Ended::BadTrace(_) => Status::BadTrace,
+            Ended::TooMuch => Status::TooMuch,
+            Ended::Full(_) => Status::Full,
+            Ended::ReadFault => Status::ReadFault,
+            Ended::WriteFault => Status::WriteFault,
+            Ended::NoMemory => Status::NoMemory,
+        }
+    }
+}

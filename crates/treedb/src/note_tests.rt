@@ -1,0 +1,84 @@
+use crate::ended::{Ended, Refusal};
+use crate::notes::write_note;
+use std::test::Fail;
+use tdb_base::MemSink;
+use trace_csv::TraceError;
+
+// Each end of a run, with its exit status and its note.
+const NOTES: [(Ended, u8, &str); 14] = [
+    (Ended::Done, 0, ""),
+    (
+        Ended::Usage,
+        2,
+        "usage: treedb insert|distinct|bench [--mode plain|compact] [--profile 16|28|31]
+  [--workers N] [--block N] [--nodes D] [--roots R] [--region S] [--probe P]
+  [--stats] [--lines N] [--slots K] [--values M] [--seed S]
+",
+    ),
+    (
+        Ended::BadTrace(Refusal::Trace(TraceError::NotANumber(2, 3))),
+        3,
+        "treedb: record 2 field 3 is not a number\n",
+    ),
+    (
+        Ended::BadTrace(Refusal::Trace(TraceError::TooBig(4, 1))),
+        3,
+        "treedb: record 4 field 1 is too big\n",
+    ),
+    (
+        Ended::BadTrace(Refusal::Trace(TraceError::Ragged(12, 3, 1000))),
+        3,
+        "treedb: record 12 has 3 fields, the first has 1000\n",
+    ),
+    (
+        Ended::BadTrace(Refusal::Trace(TraceError::Ragged(u64::MAX, u64::MAX, u64::MAX))),
+        3,
+        "treedb: record 18446744073709551615 has 18446744073709551615 fields, the first has 18446744073709551615\n",
+    ),
+    (
+        Ended::BadTrace(Refusal::Trace(TraceError::Length(1, 1025))),
+        3,
+        "treedb: record 1 has 1025 fields, 2 to 1024 are allowed\n",
+    ),
+    (
+        Ended::BadTrace(Refusal::Trace(TraceError::NoRecords)),
+        3,
+        "treedb: no records\n",
+    ),
+    (
+        Ended::BadTrace(Refusal::NotPairs),
+        3,
+        "treedb: compact mode takes 2 slots\n",
+    ),
+    (Ended::TooMuch, 4, "treedb: input is over 67108864 bytes\n"),
+    (Ended::Full(1), 5, "treedb: 1 lines full\n"),
+    (Ended::ReadFault, 6, "treedb: read fault\n"),
+    (Ended::WriteFault, 7, "treedb: write fault\n"),
+    (Ended::NoMemory, 8, "treedb: no memory\n"),
+];
+
+#[test]
+fn each_end_has_its_note(rt: HostRuntime) -> Result<(), Fail> {
+    let alloc = rt.alloc();
+    for (ended, code, text) in NOTES {
+        let mut notes = MemSink::new(alloc, 512, Vec::new(alloc), 7)?;
+        write_note(&ended, &mut notes);
+        assert_eq!(rt; notes.bytes(), text.as_bytes(), "{text}");
+        assert_eq!(rt; ended.status().code(), code, "{text}");
+    }
+    Ok(())
+}
+
+#[test]
+fn a_fault_leaves_a_prefix(rt: HostRuntime) -> Result<(), Fail> {
+    let alloc = rt.alloc();
+    for (ended, _, text) in NOTES {
+        for place in 0..text.len() {
+            let fails = vec![in alloc; place as u64 + 1]?;
+            let mut notes = MemSink::new(alloc, 512, fails, 1)?;
+            write_note(&ended, &mut notes);
+            assert_eq!(rt; notes.bytes(), &text.as_bytes()[..place], "{text}");
+        }
+    }
+    Ok(())
+}

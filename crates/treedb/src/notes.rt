@@ -1,0 +1,112 @@
+ghost use Rattle.std.specs.Prelude.{◌≡◌, ◌≢◌, ◌≤◌, ◌++◌, codes, length, true};
+ghost use Rattle.std.specs.Fmt.{decimal};
+ghost use Rattle.std.specs.Io.KnownBytes.{Appends};
+ghost use Rattle.tdb_base.specs.Causes.{Rose};
+ghost use Rattle.trace_csv.specs.Output.{TakesFront};
+ghost use Rattle.treedb.specs.Note as note;
+
+mod text;
+
+use crate::ended::{Ended, Refusal};
+use command_line::USAGE;
+use tdb_base::Sink;
+use text::NoteText;
+use trace_csv::{TraceError, write_text};
+
+/// Writes the note of a run's end, and hands it on. `Done` has none.
+///
+/// A fault of the notes ends the writing, so that they took a prefix of it, and changes nothing else.
+pub fn write_note<N: Sink>(ended: &Ended, notes: &mut N)
+    ensures done { ended.now ≡ Ended.Done → notes.new ≡ notes.old }
+    ensures front { TakesFront (N.taken notes.old) (N.taken notes.new) (note.note_text ended.now) }
+    ensures exact { (Rose (N.faults notes.old) (N.faults notes.new) → ⊥) → Appends (N.taken notes.old) (N.taken notes.new) (note.note_text ended.now) }
+    ensures settled { ended.now ≢ Ended.Done → (Rose (N.faults notes.old) (N.faults notes.new) → ⊥) → N.settled notes.new ≡ true }
+    ensures later { N.faults notes.old ≤ N.faults notes.new }
+{
+    match ended {
+        Ended::Usage => put_note(USAGE.as_bytes(), notes),
+        Ended::BadTrace(refusal) => put_note(refusal_text(*refusal).as_slice(), notes),
+        Ended::TooMuch => put_note(b"treedb: input is over 67108864 bytes\n", notes),
+        Ended::Full(lines) => put_note(full_text(*lines).as_slice(), notes),
+        Ended::ReadFault => put_note(b"treedb: read fault\n", notes),
+        Ended::WriteFault => put_note(b"treedb: write fault\n", notes),
+        Ended::NoMemory => put_note(b"treedb: no memory\n", notes),
+        Ended::Done => {}
+    }
+}
+
+// Writes a note, as far as the notes take it.
+fn put_note<N: Sink>(text: &[u8], notes: &mut N)
+    ensures front { TakesFront (N.taken notes.old) (N.taken notes.new) text.now }
+    ensures exact { (Rose (N.faults notes.old) (N.faults notes.new) → ⊥) → Appends (N.taken notes.old) (N.taken notes.new) text.now }
+    ensures settled { (Rose (N.faults notes.old) (N.faults notes.new) → ⊥) → N.settled notes.new ≡ true }
+    ensures later { N.faults notes.old ≤ N.faults notes.new }
+{
+    // There is nobody left to tell of a fault.
+    let _ = write_text(text, notes);
+}
+
+fn refusal_text(refusal: Refusal) -> NoteText
+    ensures { result ≡ note.refusal_text refusal }
+{
+    match refusal {
+        Refusal::Trace(error) => trace_text(error),
+        Refusal::NotPairs => NoteText::of(b"treedb: compact mode takes 2 slots\n"),
+    }
+}
+
+fn trace_text(error: TraceError) -> NoteText
+    ensures { result ≡ note.trace_text error }
+{
+    match error {
+        TraceError::NotANumber(row, field) => field_text(row, field, b" is not a number\n"),
+        TraceError::TooBig(row, field) => field_text(row, field, b" is too big\n"),
+        TraceError::Ragged(row, fields, first) => {
+            let mut text = count_text(row, fields, b" fields, the first has ");
+            text.add_number(first);
+            text.add(b"\n");
+            text
+        }
+        TraceError::Length(row, fields) => {
+            count_text(row, fields, b" fields, 2 to 1024 are allowed\n")
+        }
+        TraceError::NoRecords => NoteText::of(b"treedb: no records\n"),
+        TraceError::NoMemory => NoteText::of(b"treedb: no memory\n"),
+    }
+}
+
+// A fault of a field.
+fn field_text(row: u64, field: u64, fault: &[u8]) -> NoteText
+    requires { length fault.now ≤ 40 }
+    ensures { result ≡ codes "treedb: record " ++ decimal row ++ codes " field " ++ decimal field ++ fault.now }
+{
+    let mut text = NoteText::of(b"treedb: record ");
+    text.add_number(row);
+    text.add(b" field ");
+    text.add_number(field);
+    text.add(fault);
+    text
+}
+
+// The count of a record's fields, and what is wrong with it.
+fn count_text(row: u64, fields: u64, fault: &[u8]) -> NoteText
+    requires { length fault.now ≤ 40 }
+    ensures text { result ≡ codes "treedb: record " ++ decimal row ++ codes " has " ++ decimal fields ++ fault.now }
+    ensures short { length result ≤ 100 }
+{
+    let mut text = NoteText::of(b"treedb: record ");
+    text.add_number(row);
+    text.add(b" has ");
+    text.add_number(fields);
+    text.add(fault);
+    text
+}
+
+fn full_text(lines: u64) -> NoteText
+    ensures { result ≡ codes "treedb: " ++ decimal lines ++ codes " lines full\n" }
+{
+    let mut text = NoteText::of(b"treedb: ");
+    text.add_number(lines);
+    text.add(b" lines full\n");
+    text
+}
