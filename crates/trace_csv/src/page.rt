@@ -48,7 +48,7 @@ impl Page {
     }
 
     pub fn has_room(&self) -> bool
-        ensures { result ≡ true → HasRoom self.now 256 }
+        ensures { IsTrue result ↔ HasRoom self.now 256 }
     {
         self.len <= SIZE - ROOM
     }

@@ -1,6 +1,6 @@
-use Rattle.std.proofs.Common.{◌≡◌, ◌∙◌, arith, ◌+◌, ◌++◌, [], List, ℕ, length, take, drop, get_or, ap, refl, sym, append_assoc}
+use Rattle.std.proofs.Common.{◌≡◌, ◌∙◌, arith, ◌++◌, [], List, ℕ, take, drop, ap, refl, sym, append_assoc}
 use Rattle.std.proofs.lemmas.List.{append-nil, take_all}
-use Rattle.trace_csv.specs.Report.{report, reply_line, reply_lines, summary_text}
+use Rattle.trace_csv.specs.Report.{report, reply_lines, summary_text}
 use Rattle.trace_csv.proofs.OutputLemmas.{on_err}
 use Rattle.trace_csv.proofs.PageLemmas.{carries-add, carries-none, carries-room, carries-stop}
 use Rattle.trace_csv.proofs.ReportLemmas.{lines-next, lines-none, lines-split}
