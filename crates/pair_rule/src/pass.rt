@@ -59,6 +59,20 @@ impl<T> PassOf<T> {
     }
 }
 
+// So many equal elements, and room for more that nobody uses. Threads write the buffers of their passes at each call: so no buffer shares a cache line with
+// what is allocated behind it, wherever that is.
+fn set_apart<X: Copy>(alloc: Global, value: X, count: usize) -> Result<Vec<X>, NoMemory>
+    requires { count ≤ 2048 }
+    ensures { IfOk result (λ buffer. length buffer.items ≡ count) }
+{
+    let mut buffer = Vec::with_capacity(alloc, count + APART)?;
+    buffer.resize(count, value)?;
+    Ok(buffer)
+}
+
+// Two lines of 64 bytes, since processors fetch lines in pairs. An element has a byte or more.
+const APART: usize = 128;
+
 // The buffers of a pass, before it has a seat.
 #[derive(Drop)]
 pub(crate) struct Buffers {
@@ -75,9 +89,9 @@ impl Buffers {
         ensures marks { IfOk result (λ b. length b.marks.items ≡ slots) }
     {
         Ok(Buffers {
-            last_tree: vec![in alloc; 0; 2 * slots]?,
-            next_tree: vec![in alloc; 0; 2 * slots]?,
-            marks: vec![in alloc; false; slots]?,
+            last_tree: set_apart(alloc, 0, 2 * slots)?,
+            next_tree: set_apart(alloc, 0, 2 * slots)?,
+            marks: set_apart(alloc, false, slots)?,
         })
     }
 

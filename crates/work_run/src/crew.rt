@@ -29,11 +29,7 @@ fn hire_one<R: RootPart<W, F>, const W: u32, const F: u32>(
 {
     let replies = Vec::with_capacity(alloc, room as usize)?;
     let pass = store.split(alloc, pass)?;
-    Ok(Worker {
-        number,
-        pass,
-        replies,
-    })
+    Ok(Worker::new(number, pass, replies))
 }
 
 /// So many workers, each with a pass that is split from this one, and with room for the replies to its lines. After `NoMemory` the passes that
