@@ -5,66 +5,135 @@ set -u
 cd "$(dirname "${BASH_SOURCE[0]}")/.." || exit 1
 passed=0
 failed=0
+work=$(mktemp -d)
+trap 'rm -rf "$work"' EXIT
 
-# check NAME STATUS OUTPUT-FILE WORDS..: the program on standard input, wanted status and output
-check() {
-  local name=$1 status=$2 wanted=$3
-  shift 3
-  local got
-  got=$(mktemp)
-  ./treedb "$@" > "$got" 2> "$got.notes"
-  local was=$?
-  if [ "$was" -eq "$status" ] && cmp -s "$got" "$wanted" && [ ! -s "$got.notes" ]; then
-    echo "ok   $name"
+# tell NAME RIGHT DETAIL: counts a check that was right (yes) or not
+tell() {
+  if [ "$2" = yes ]; then
+    echo "ok   $1"
     passed=$((passed + 1))
   else
-    echo "FAIL $name: status $was, wanted $status; the difference in output:"
-    diff "$got" "$wanted" | head -n 5
-    head -n 5 "$got.notes"
+    echo "FAIL $1: $3"
     failed=$((failed + 1))
   fi
-  rm -f "$got" "$got.notes"
 }
 
-./treedb insert --mode compact < examples/pairs.csv > /dev/null 2>&1 # builds on first use
+# check NAME STATUS NOTE WORDS..: the program on standard input; its output is to be that of $work/wanted, its note the line NOTE
+check() {
+  local name=$1 status=$2 note=$3
+  shift 3
+  ./treedb "$@" > "$work/got" 2> "$work/notes"
+  local was=$?
+  if [ "$was" -ne "$status" ]; then
+    tell "$name" no "status $was, wanted $status"
+  elif ! cmp -s "$work/got" "$work/wanted"; then
+    tell "$name" no "another output: $(diff "$work/got" "$work/wanted" | head -n 5)"
+  elif [ "$(head -n 1 "$work/notes")" != "$note" ]; then
+    tell "$name" no "another note: $(head -n 5 "$work/notes")"
+  else
+    tell "$name" yes
+  fi
+}
 
-wanted=$(mktemp)
-: > "$wanted.none"
+# wants TEXT: the output that the next checks want
+wants() {
+  printf "$1" > "$work/wanted"
+}
 
-printf '1,805306373,new\n2,1342177283,new\n3,805306373,seen\nlines 3\ndistinct 2\n' > "$wanted"
-check "three pairs" 0 "$wanted" insert --mode compact < examples/pairs.csv
+# wants_pairs TRACE: the report of compact mode for pairs, by awk's own set of lines
+wants_pairs() {
+  awk -F, '{ id = $1 * 268435456 + $2; print NR "," id "," (id in seen ? "seen" : "new"); if (!(id in seen)) { seen[id]; n++ } }
+    END { print "lines " NR; print "distinct " n }' OFMT=%.0f CONVFMT=%.0f "$1" > "$work/wanted"
+}
 
-# an answer of awk's own, over an ordered set by text
-awk -F, '{ id = $1 * 268435456 + $2; print NR "," id "," (id in seen ? "seen" : "new"); if (!(id in seen)) { seen[id]; n++ } }
-  END { print "lines " NR; print "distinct " n }' OFMT=%.0f CONVFMT=%.0f examples/peterson.csv > "$wanted"
-check "Peterson's protocol, beside awk" 0 "$wanted" insert --mode compact < examples/peterson.csv
+# check_names NAME TRACE WORDS..: a report of any number of workers for a trace that fits, looked at from the outside: a line for each line, one identifier
+# for each vector and one vector for each identifier, each vector new once, and the counts
+check_names() {
+  local name=$1 trace=$2
+  shift 2
+  ./treedb "$@" < "$trace" > "$work/got" 2> "$work/notes"
+  local was=$?
+  local faults
+  faults=$(awk -F, -v trace="$trace" '
+    function fault(what) { print "line " FNR ": " what }
+    FILENAME == trace { line[FNR] = $0; lines = FNR; if (!($0 in met)) { met[$0]; vectors++ } next }
+    FNR <= lines {
+      v = line[FNR]
+      if ($1 != FNR) fault("its number")
+      if (v in id && id[v] != $2) fault("two identifiers")
+      if ($2 in vector && vector[$2] != v) fault("two vectors")
+      id[v] = $2; vector[$2] = v
+      if ($3 == "new") { if (fresh[v]++) fault("new again") } else if ($3 == "seen") repeats++; else fault("its answer")
+      next
+    }
+    FNR == lines + 1 { if ($0 != "lines " lines) fault($0); next }
+    FNR == lines + 2 { if ($0 != "distinct " vectors) fault($0); next }
+    { fault("one too many") }
+    END { if (lines != vectors + repeats) print "the answers"; if (FNR != lines + 2) print "the summary" }' "$trace" "$work/got" | head -n 3)
+  if [ "$was" -eq 0 ] && [ -z "$faults" ] && [ ! -s "$work/notes" ]; then
+    tell "$name" yes
+  else
+    tell "$name" no "status $was; $faults"
+  fi
+}
 
-awk 'BEGIN { x = 7; for (i = 0; i < 200000; i++) { x = (x * 16807) % 2147483647; print x % 997 "," int(x / 1000) % 499 } }' > "$wanted.trace"
-awk -F, '{ id = $1 * 268435456 + $2; print NR "," id "," (id in seen ? "seen" : "new"); if (!(id in seen)) { seen[id]; n++ } }
-  END { print "lines " NR; print "distinct " n }' OFMT=%.0f CONVFMT=%.0f "$wanted.trace" > "$wanted"
-check "200,000 drawn pairs, beside awk" 0 "$wanted" insert --mode compact < "$wanted.trace"
+./treedb insert < examples/pairs.csv > /dev/null 2>&1 # builds on first use
+awk 'BEGIN { x = 7; for (i = 0; i < 200000; i++) { x = (x * 16807) % 2147483647; print x % 997 "," int(x / 1000) % 499 } }' > "$work/pairs.csv"
+awk 'BEGIN { x = 7; for (i = 0; i < 100000; i++) { x = (x * 16807) % 2147483647; v[x % 9] = int(x / 1000) % 3
+  line = v[0] + 0; for (j = 1; j < 9; j++) line = line "," v[j] + 0; print line } }' > "$work/walk.csv"
 
-check "no input" 3 "$wanted.none" insert --mode compact < /dev/null
-check "a record of one field" 3 "$wanted.none" insert --mode compact < <(printf '1,2\n1\n')
-check "a vector of three slots" 3 "$wanted.none" insert --mode compact < <(printf '1,2,3\n')
-check "a number that is too big" 3 "$wanted.none" insert --mode compact < <(printf '268435456,0\n')
-check "one byte over the limit" 4 "$wanted.none" insert --mode compact < <(head -c 67108865 /dev/zero | tr '\0' '0')
-check "no words" 2 "$wanted.none" < examples/pairs.csv
-check "another mode" 2 "$wanted.none" insert --mode fast < examples/pairs.csv
-check "a word that is no text" 2 "$wanted.none" insert --mode $'\xff' < examples/pairs.csv
-check "a folder for input" 6 "$wanted.none" insert --mode compact < .
+wants '1,4,new\n2,7,new\n3,4,seen\nlines 3\ndistinct 2\n'
+check "three pairs" 0 "" insert < examples/pairs.csv
+wants '1,0,new\nlines 1\ndistinct 1\nnodes 1\nstored 16\nraw 20\n'
+check "statistics of one vector" 0 "" insert --stats < <(printf '0,0,0,0,0\n')
+check_names "Peterson's protocol" examples/peterson.csv insert
+check_names "200,000 drawn pairs" "$work/pairs.csv" insert
+check_names "200,000 drawn pairs by 8 workers" "$work/pairs.csv" insert --workers 8
+check_names "a walk of 100,000 lines" "$work/walk.csv" insert
+check_names "a walk of 100,000 lines by 64 workers, line by line" "$work/walk.csv" insert --workers 64 --block 1
+check_names "a walk of 100,000 lines of big numbers' width" "$work/walk.csv" insert --profile 31 --workers 3
+
+wants 'lines 100000\ndistinct 74191\n'
+check "drawn lines" 0 "" bench --lines 100000 --slots 32 --values 4 --seed 1 < /dev/null
+check "drawn lines by 8 workers" 0 "" bench --lines 100000 --slots 32 --values 4 --seed 1 --workers 8 < /dev/null
+
+wants '1,805306373,new\n2,1342177283,new\n3,805306373,seen\nlines 3\ndistinct 2\n'
+check "three pairs in compact mode" 0 "" insert --mode compact < examples/pairs.csv
+wants_pairs examples/peterson.csv
+check "Peterson's protocol in compact mode, beside awk" 0 "" insert --mode compact < examples/peterson.csv
+wants_pairs "$work/pairs.csv"
+check "200,000 drawn pairs in compact mode, beside awk" 0 "" insert --mode compact < "$work/pairs.csv"
+
+wants ''
+check "no input" 3 "treedb: no records" insert < /dev/null
+check "a record of one field" 3 "treedb: record 2 has 1 fields, the first has 2" insert < <(printf '1,2\n1\n')
+check "a vector of three slots in compact mode" 3 "treedb: compact mode takes 2 slots" insert --mode compact < <(printf '1,2,3\n')
+check "a number that is too big" 3 "treedb: record 1 field 1 is too big" insert < <(printf '268435456,0\n')
+check "one byte over the limit" 4 "treedb: input is over 67108864 bytes" insert < <(head -c 67108865 /dev/zero | tr '\0' '0')
+usage='usage: treedb insert|distinct|bench [--mode plain|compact] [--profile 16|28|31]'
+check "no words" 2 "$usage" < examples/pairs.csv
+check "another mode" 2 "$usage" insert --mode fast < examples/pairs.csv
+check "a word that is no text" 2 "$usage" insert --mode $'\xff' < examples/pairs.csv
+check "a folder for input" 6 "treedb: read fault" insert < .
 
 # a full device takes no report
-./treedb insert --mode compact < examples/pairs.csv > /dev/full 2> "$wanted.notes"
+./treedb insert < examples/pairs.csv > /dev/full 2> "$work/notes"
 was=$?
-if [ "$was" -eq 7 ] && [ ! -s "$wanted.notes" ]; then
-  echo "ok   a sink that takes nothing"
-  passed=$((passed + 1))
+if [ "$was" -eq 7 ] && [ "$(cat "$work/notes")" = "treedb: write fault" ]; then
+  tell "a sink that takes nothing" yes
 else
-  echo "FAIL a sink that takes nothing: status $was, wanted 7"
-  failed=$((failed + 1))
+  tell "a sink that takes nothing" no "status $was, wanted 7"
 fi
 
-rm -f "$wanted" "$wanted".*
+# a reader that goes away ends the run
+./treedb insert < "$work/pairs.csv" 2> "$work/notes" | head -n 1 > "$work/got"
+was=${PIPESTATUS[0]}
+if [ "$was" -eq 7 ] && [ "$(cat "$work/notes")" = "treedb: write fault" ]; then
+  tell "a pipe that closes early" yes
+else
+  tell "a pipe that closes early" no "status $was, wanted 7"
+fi
+
 echo "$passed passed, $failed failed"
 [ "$failed" -eq 0 ]

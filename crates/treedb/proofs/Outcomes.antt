@@ -147,23 +147,23 @@ module _ {S K : Type 0} (c : Choice) (left : S → Option (List ℕ)) (source_fa
     detail = tt;
   })
   whole ended text writes appends (suc n) count ends settles = subst (λ (x : Ended). Outcome (Some c) left source_faults taken sink_faults settled source source' sink sink' (status_of x) x) (sym ends) (
-    let printed : Prints (Some c) (left source) (taken sink) (taken sink') s.Full = record { run = run_of; text = text; is_text = writes; taken = appends; full = (λ f. (any_full replies).1 n count, λ f. refl) } in
-    record {
-    usage = λ u. cc u;
-    refused_words = λ n. cc n;
-    unread = λ u. cc u;
-    drawn = drawn;
-    read_fault = λ r. cc r;
-    gave = within s.Full (λ t. cc t);
-    bad_trace = λ b. cc b;
-    write_fault = λ w. cc w;
-    untouched = λ a b. cc a;
-    front = λ w. cc w;
-    end = λ t. at_end;
-    settles = λ p. settles;
-    prints = λ p. printed;
-    detail = (printed, count);
-  })
+      let printed : Prints (Some c) (left source) (taken sink) (taken sink') s.Full = record { run = run_of; text = text; is_text = writes; taken = appends; full = (λ f. (any_full replies).1 n count, λ f. refl) } in
+      record {
+        usage = λ u. cc u;
+        refused_words = λ n. cc n;
+        unread = λ u. cc u;
+        drawn = drawn;
+        read_fault = λ r. cc r;
+        gave = within s.Full (λ t. cc t);
+        bad_trace = λ b. cc b;
+        write_fault = λ w. cc w;
+        untouched = λ a b. cc a;
+        front = λ w. cc w;
+        end = λ t. at_end;
+        settles = λ p. settles;
+        prints = λ p. printed;
+        detail = (printed, count);
+      })
 
   -- a run that wrote a front of its text
   broken : (ended : Ended) (text : List ℕ) → IsText c.job replies history stats text → TakesFront (taken sink) (taken sink') text → ended ≡ e.WriteFault → Rose (sink_faults sink) (sink_faults sink')

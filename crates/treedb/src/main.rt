@@ -14,10 +14,10 @@ mod run;
 mod tests;
 
 pub use command_line::{Choice, ChoiceError, Job, Mode, choose};
-pub use run::run_plain;
 use ended::Ended;
 use notes::write_note;
 use run::run;
+pub use run::run_plain;
 use std::alloc::Global;
 use std::io::{BufWriter, ErrorKind};
 use std::process::ExitCode;

@@ -34,7 +34,12 @@ fn ended(replies: &[Reply]) -> Ended
 /// Writes the text of a job whose lines were answered so: the report of all replies, or the summary alone. The sink is finished then.
 ///
 /// `WriteFault` comes only where the sink's count of faults rose, and leaves a front of the text.
-pub fn write_answers<K: Sink>(job: Job, replies: &[Reply], stats: Option<Stats>, sink: &mut K) -> Ended
+pub fn write_answers<K: Sink>(
+    job: Job,
+    replies: &[Reply],
+    stats: Option<Stats>,
+    sink: &mut K,
+) -> Ended
     requires { job ≢ Job.Distinct }
     ensures written { WritesAnswers job replies.now stats (K.taken sink.old) (K.taken sink.new) result }
     ensures settled { result ≢ Ended.WriteFault → K.settled sink.new ≡ true }

@@ -33,16 +33,16 @@ returns g c =
     let is = made.about in
     let some = c.requires.valid.in_range.workers.0 in
     let is_about : IsAbout choice.profile (flag_count choice.profile) sized count about =
-        subst (λ (w : ℕ). IsAbout w (flag_count w) sized count about) (sym width) (subst (λ (f : ℕ). IsAbout g.row.W f sized count about) flags is.0) in
+    subst (λ (w : ℕ). IsAbout w (flag_count w) sized count about) (sym width) (subst (λ (f : ℕ). IsAbout g.row.W f sized count about) flags is.0) in
     let about_is : IsAboutChoice choice trace about = record {
-          is_about = is_about;
-          slots = subst (λ (n : ℕ). All (λ (v : Vector). length v ≡ n) trace) (sym is.2) c.slots-slots.ensures.each;
-          sizes = sizes.sizes;
-          are_sizes = subst (λ (n : ℕ). AreTableSizes choice n (length trace) sizes.sizes) (sym is.2) (subst (λ (n : ℕ). AreTableSizes choice c.slots-slots.result n sizes.sizes) c.len.ensures.count sizes.are_sizes);
-          nodes = ap (λ (s : Sizes). s.nodes) is.1 ∙ sizes.nodes;
-          roots = ap (λ (s : Sizes). s.roots) is.1 ∙ sizes.roots;
-          probe = ap (λ (s : Sizes). s.probe) is.1 ∙ sizes.probe;
-        } in
+      is_about = is_about;
+      slots = subst (λ (n : ℕ). All (λ (v : Vector). length v ≡ n) trace) (sym is.2) c.slots-slots.ensures.each;
+      sizes = sizes.sizes;
+      are_sizes = subst (λ (n : ℕ). AreTableSizes choice n (length trace) sizes.sizes) (sym is.2) (subst (λ (n : ℕ). AreTableSizes choice c.slots-slots.result n sizes.sizes) c.len.ensures.count sizes.are_sizes);
+      nodes = ap (λ (s : Sizes). s.nodes) is.1 ∙ sizes.nodes;
+      roots = ap (λ (s : Sizes). s.roots) is.1 ∙ sizes.roots;
+      probe = ap (λ (s : Sizes). s.probe) is.1 ∙ sizes.probe;
+    } in
     let probed = ran.rest.seat.sound.probed in
     let none : (view first).probes ≡ 0 = ap (λ (v : View Roots). v.probes) made.view in
     let most = few_puts about trace replies choice.workers choice.block in
