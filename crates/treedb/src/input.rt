@@ -71,7 +71,13 @@ fn drawn(alloc: Global, choice: &Choice) -> Result<Trace, Ended>
     ensures below { IfOk result (λ trace. All (λ line. All (λ n. n < 2 ^ choice.now.profile) line) trace) }
     ensures refused { IfErr result (λ ended. ended ≡ Ended.NoMemory) }
 {
-    match generate(alloc, choice.lines, choice.slots, choice.values, choice.seed) {
+    match generate(
+        alloc,
+        choice.lines,
+        choice.slots,
+        choice.values,
+        choice.seed,
+    ) {
         Ok(trace) => Ok(trace),
         Err(_) => Err(Ended::NoMemory),
     }

@@ -1,6 +1,9 @@
 //! The program over a store of state vectors: it reads a trace from standard input and writes a report to standard output.
 #![tactic(auto)]
 
+mod distinct;
+#[cfg(test)]
+mod distinct_tests;
 mod ended;
 mod input;
 #[cfg(test)]
@@ -14,10 +17,10 @@ mod run;
 mod tests;
 
 pub use command_line::{Choice, ChoiceError, Job, Mode, choose};
-pub use run::run_plain;
 use ended::Ended;
 use notes::write_note;
 use run::run;
+pub use run::run_plain;
 use std::alloc::Global;
 use std::io::{BufWriter, ErrorKind};
 use std::process::ExitCode;
