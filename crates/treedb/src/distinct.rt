@@ -157,9 +157,10 @@ impl ReadBack {
     {
         let slots = self.slots;
         let flat = self.flat.as_slice();
-        self.order.sort_unstable_by(|a, b| vector_at(slots, flat, *a).cmp(vector_at(
-            slots, flat, *b,
-        )));
+        self.order.sort_unstable_by(|a, b| {
+            let left = vector_at(slots, flat, *a);
+            left.cmp(vector_at(slots, flat, *b))
+        });
     }
 
     // Reads back the vectors of the replies that are new, in rising list order.

@@ -161,8 +161,8 @@ fn tell<N: Sink>(ended: Ended, notes: &mut N) -> Status
 
 /// What the program does in plain mode: the words choose, the lines are taken and inserted into a store by the workers, and the job's text is written.
 ///
-/// The first refusal is the answer, and then the sink is as it was: `Usage` for words that choose nothing, for compact mode, and for what isn't offered
-/// yet; `ReadFault` and `TooMuch` (more than 67,108,864 bytes) for the input; `BadTrace` for bytes that are no trace. `NoMemory` comes before the first
+/// The first refusal is the answer, and then the sink is as it was: `Usage` for words that choose nothing, and for compact mode;
+/// `ReadFault` and `TooMuch` (more than 67,108,864 bytes) for the input; `BadTrace` for bytes that are no trace. `NoMemory` comes before the first
 /// line is inserted. `WriteFault` leaves a front of the text. `Full` is the answer where some line is full and the whole text was written. The note of
 /// the end goes to `notes` last, and a fault there changes nothing. It waits for nobody.
 pub fn run_plain<R: Threads + Sync, S: Source, K: Sink, N: Sink, G: Gate>(
