@@ -5,3 +5,5 @@ pub mod AgreeLemmas
 pub mod RunLemmas
 pub mod Stores
 pub mod Outcomes
+pub mod ReadBackLemmas
+pub mod NewLemmas

@@ -23,7 +23,7 @@ use Rattle.treedb.specs.Offered.{flag_count}
 use Rattle.treedb.specs.Outcome.{IsDetail, Outcome}
 use Rattle.treedb.specs.Reading.{EndsReading, GaveWithin, IsRefusedFor, ReadsToEnd}
 use Rattle.treedb.specs.Run.{GivesWithin, IsOfMode, IsText, Prints, PrintsFront, Run, is_printed, reads_to_end, valid_input}
-use Rattle.treedb.specs.Writing.{WritesAnswers, ended_with, ended_with_full, text_of}
+use Rattle.treedb.specs.Writing.{WritesAnswers, WritesText, ended_with, ended_with_full, text_of}
 use Rattle.treedb.specs.declared.ended.Ended.{Ended}
 use Rattle.treedb.specs.declared.ended.Ended.TheVariants as e
 use Rattle.treedb.specs.declared.ended.Refusal.{Refusal}
@@ -186,14 +186,19 @@ module _ {S K : Type 0} (c : Choice) (left : S → Option (List ℕ)) (source_fa
     detail = tt;
   })
 
-  pub written : (ended : Ended) → c.job ≢ Distinct → WritesAnswers c.job replies stats (taken sink) (taken sink') ended → (ended ≢ e.WriteFault → settled sink' ≡ true) → (ended ≡ e.WriteFault → Rose (sink_faults sink) (sink_faults sink'))
+  pub written_text : (ended : Ended) (text : List ℕ) → IsText c.job replies history stats text → WritesText text replies (taken sink) (taken sink') ended
+      → (ended ≢ e.WriteFault → settled sink' ≡ true) → (ended ≡ e.WriteFault → Rose (sink_faults sink) (sink_faults sink'))
       → Outcome (Some c) left source_faults taken sink_faults settled source source' sink sink' (status_of ended) ended
-  written ended other writes settles fault = ⊎_elim
-      (λ (w : Appends (taken sink) (taken sink') (text_of c.job replies stats) × (ended ≡ ended_with replies)).
-      whole ended (text_of c.job replies stats) (is_text c.job replies history stats other) w.0 (count_by is_full replies) refl w.1 (settles (λ x. with_no_fault (count_by is_full replies) (sym w.1 ∙ x))))
-      (λ (w : TakesFront (taken sink) (taken sink') (text_of c.job replies stats) × (ended ≡ e.WriteFault)). broken ended (text_of c.job replies stats) (is_text c.job replies history stats other) w.0 w.1 (fault w.1))
+  written_text ended text is writes settles fault = ⊎_elim
+      (λ (w : Appends (taken sink) (taken sink') text × (ended ≡ ended_with replies)).
+      whole ended text is w.0 (count_by is_full replies) refl w.1 (settles (λ x. with_no_fault (count_by is_full replies) (sym w.1 ∙ x))))
+      (λ (w : TakesFront (taken sink) (taken sink') text × (ended ≡ e.WriteFault)). broken ended text is w.0 w.1 (fault w.1))
       writes
     where
       with_no_fault : (n : ℕ) → ended_with_full n ≡ e.WriteFault → ⊥
       with_no_fault zero x = cc x
       with_no_fault (suc n) x = cc x
+
+  pub written : (ended : Ended) → c.job ≢ Distinct → WritesAnswers c.job replies stats (taken sink) (taken sink') ended → (ended ≢ e.WriteFault → settled sink' ≡ true) → (ended ≡ e.WriteFault → Rose (sink_faults sink) (sink_faults sink'))
+      → Outcome (Some c) left source_faults taken sink_faults settled source source' sink sink' (status_of ended) ended
+  written ended other writes settles fault = written_text ended (text_of c.job replies stats) (is_text c.job replies history stats other) writes settles fault

@@ -1,5 +1,5 @@
 -- The plain sentences on a run.
-use Rattle.std.proofs.Common.{ℕ, List, [], Option}
+use Rattle.std.proofs.Common.{ℕ, List, [], Option, subst}
 use Rattle.std.specs.List.{range_with_len}
 use Rattle.tdb_base.specs.Headline.{CountsDistinct, CountsNames, DifferentLinesDifferentIds, EachNewOnce, EqualLinesEqualIds}
 use Rattle.tdb_base.specs.Legal.{KeepsNames}
@@ -7,7 +7,10 @@ use Rattle.tdb_base.proofs.HeadlineLemmas.{counts-distinct, counts-names, differ
 use Rattle.tdb_base.proofs.NameLemmas.{keeps-names}
 use Rattle.command_line.specs.declared.outcome.Choice.{Choice}
 use Rattle.treedb.specs.Offered.{flag_count}
-use Rattle.treedb.specs.Run.{Run}
+use Rattle.command_line.specs.declared.outcome.Job.{Job}
+use Rattle.command_line.specs.declared.outcome.Job.TheVariants.{Distinct}
+use Rattle.treedb.specs.Run.{IsText, IsTextOf, PrintsTheLines, Run}
+use Rattle.treedb.proofs.NewLemmas.{trace-named}
 
 module _ (offer : Option Choice) (told : Option (List ℕ)) (run : Run offer told) where
   abbrev workers : List ℕ
@@ -30,3 +33,16 @@ module _ (offer : Option Choice) (told : Option (List ℕ)) (run : Run offer tol
 
   pub run_keeps : KeepsNames (flag_count run.choice.profile) run.history
   run_keeps = keeps-names (flag_count run.choice.profile) run.history
+
+  pub run_lines : (text : List ℕ) → IsTextOf run text → PrintsTheLines run text
+  run_lines text is_text job none =
+      let printed : IsText Distinct run.replies run.history run.stats text = subst (λ (j : Job). IsText j run.replies run.history run.stats text) job is_text in
+      let same = trace-named (flag_count run.choice.profile) run.trace run.replies run.choice.workers run.choice.block run.history workers run.agrees run.some none in
+      record {
+        sorted = printed.sorted;
+        set = record {
+          rising = printed.set.rising;
+          same = λ v. ((λ has. (same v).0 ((printed.set.same v).0 has)), (λ has. (printed.set.same v).1 ((same v).1 has)));
+        };
+        written = printed.written;
+      }

@@ -86,7 +86,7 @@ module _ (c : Choice) (trace : List Vector) (replies : List Reply) (table : Tabl
   none_seen : (view first).seen ≡ []
   none_seen = ap (λ (v : View Roots). v.seen) new
 
-  own_agrees : Agrees (flag_count c.profile) trace replies c.workers c.block [] (view last).seen one.0
+  pub own_agrees : Agrees (flag_count c.profile) trace replies c.workers c.block [] (view last).seen one.0
   own_agrees = subst (λ (n : ℕ). Agrees n trace replies c.workers c.block [] (view last).seen one.0) flags
       (subst (λ (h : History). Agrees about.flags trace replies c.workers c.block h (view last).seen one.0) none_seen (one.1.alone begins))
 

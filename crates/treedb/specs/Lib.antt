@@ -2,6 +2,7 @@ pub mod Offered
 pub mod Lines
 pub mod Pairs
 pub mod Stored
+pub mod ReadBack
 pub mod Answered
 pub mod Run
 pub mod Note

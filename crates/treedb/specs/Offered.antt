@@ -16,14 +16,9 @@ is_insert Insert = true
 is_insert Distinct = false
 is_insert Bench = false
 
-abbrev pub is_distinct : Job → Bool
-is_distinct Insert = false
-is_distinct Distinct = true
-is_distinct Bench = false
-
--- as yet no vectors are printed; and in compact mode one worker inserts lines, and no statistics are told
+-- as yet in compact mode one worker inserts lines, and no statistics are told
 abbrev pub is_offered : Choice → Bool
-is_offered c = if is_compact c.mode then is_insert c.job && ((c.workers == 1) && not c.stats) else not (is_distinct c.job)
+is_offered c = if is_compact c.mode then is_insert c.job && ((c.workers == 1) && not c.stats) else true
 
 -- the choice of some words, if it is offered
 abbrev pub offered : List Text → Option Choice

@@ -79,6 +79,10 @@ IsText Bench replies h stats text = text ≡ summary_text (summary_of replies st
 abbrev pub IsTextOf : {offer : Option Choice} {told : Option (List ℕ)} → Run offer told → List ℕ → Type 0
 IsTextOf run text = IsText run.choice.job run.replies run.history run.stats text
 
+-- where the job prints vectors and no line is full, they are those of the lines
+abbrev pub PrintsTheLines : {offer : Option Choice} {told : Option (List ℕ)} → Run offer told → List ℕ → Type 0
+PrintsTheLines run text = run.choice.job ≡ Distinct → list_any is_full run.replies ≡ false → IsSortedText run.trace text
+
 -- the sink took the text of a run, which is answered `Full` exactly where some line is full
 pub record Prints (offer : Option Choice) (told old new : Option (List ℕ)) (status : Status) : Type 0 where
   pub run : Run offer told

@@ -1,6 +1,9 @@
 //! The program over a store of state vectors: it reads a trace from standard input and writes a report to standard output.
 #![tactic(auto)]
 
+mod distinct;
+#[cfg(test)]
+mod distinct_tests;
 mod ended;
 mod input;
 #[cfg(test)]

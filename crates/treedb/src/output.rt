@@ -2,12 +2,15 @@
 ghost use Rattle.std.specs.Prelude.{◌≡◌, ◌≢◌, true};
 ghost use Rattle.tdb_base.specs.Causes.{Rose};
 ghost use Rattle.trace_csv.specs.Report.{summary_of};
-ghost use Rattle.treedb.specs.Writing.{WritesAnswers, ended_with};
+ghost use Rattle.trace_csv.specs.Vectors.{vectors_text};
+ghost use Rattle.treedb.specs.ReadBack.{AreThere, vectors};
+ghost use Rattle.treedb.specs.Writing.{WritesAnswers, WritesText, ended_with};
 
+use crate::distinct::ReadBack;
 use crate::ended::Ended;
 use command_line::Job;
 use tdb_base::{Reply, Sink};
-use trace_csv::{Stats, Summary, WriteFault, write_report, write_summary};
+use trace_csv::{Stats, Summary, WriteFault, write_report, write_summary, write_vectors};
 
 // The summary of some replies.
 fn summary(replies: &[Reply], stats: Option<Stats>) -> Summary
@@ -51,6 +54,21 @@ pub fn write_answers<K: Sink>(
         _ => write_report(replies, &summary, sink),
     };
     match written {
+        Ok(()) => ended(replies),
+        Err(WriteFault) => Ended::WriteFault,
+    }
+}
+
+/// Writes the vectors that were read back, a line for each. The sink is finished then.
+///
+/// `WriteFault` comes only where the sink's count of faults rose, and leaves a front of the text.
+pub fn write_distinct<K: Sink>(read: &ReadBack, replies: &[Reply], sink: &mut K) -> Ended
+    requires { AreThere read.now }
+    ensures written { WritesText (vectors_text (vectors read.now)) replies.now (K.taken sink.old) (K.taken sink.new) result }
+    ensures settled { result ≢ Ended.WriteFault → K.settled sink.new ≡ true }
+    ensures fault { result ≡ Ended.WriteFault → Rose (K.faults sink.old) (K.faults sink.new) }
+{
+    match write_vectors(read.slots, &read.flat, &read.order, sink) {
         Ok(()) => ended(replies),
         Err(WriteFault) => Ended::WriteFault,
     }

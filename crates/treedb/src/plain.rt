@@ -13,6 +13,7 @@ ghost use Rattle.treedb.specs.Offered.{flag_count};
 ghost use Rattle.treedb.specs.Answered.{IsAnswered, AreSizesOf, CountsOf};
 ghost use Rattle.treedb.specs.Stored.{AreTold};
 
+use crate::distinct::{ReadBack, read_back, take_room};
 use command_line::{Choice, Mode, sizes};
 use pair_rule::Sizes;
 use root_plain::PlainRoot;
@@ -24,11 +25,12 @@ use tree_shape::Shape;
 use tree_store::{CreateError, PlainPass, PlainStore, TreeStore};
 use work_run::run_lines;
 
-/// The reply to each line, and the counts of the store, if they are asked for.
+/// The reply to each line, the counts of the store, if they are asked for, and the vectors that were answered new, if the job prints them.
 #[derive(Drop)]
 pub struct Answered {
     pub replies: Vec<Reply>,
     pub stats: Option<Stats>,
+    pub vectors: Option<ReadBack>,
 }
 
 // The sizes of the tables of a choice.
@@ -112,6 +114,7 @@ fn insert_into<R: Threads + Sync, G: Gate, const W: u32, const F: u32>(
     let slots = trace.slots();
     let sizes = store_sizes(choice, slots, trace.len());
     let (store, mut pass) = make_store::<W, F>(alloc, slots, &sizes)?;
+    let room = take_room(alloc, choice.job, slots, trace.len())?;
     let replies = run_lines(
         rt,
         alloc,
@@ -123,10 +126,16 @@ fn insert_into<R: Threads + Sync, G: Gate, const W: u32, const F: u32>(
         gate,
     )?;
     let stats = stats_of(&store, &pass, choice.stats);
-    Ok(Answered { replies, stats })
+    let vectors = read_back(&store, &mut pass, &replies, room);
+    Ok(Answered {
+        replies,
+        stats,
+        vectors,
+    })
 }
 
-/// Inserts the lines of a trace into a new plain store of the choice's profile and sizes: the reply to each line.
+/// Inserts the lines of a trace into a new plain store of the choice's profile and sizes: the reply to each line, and
+/// for `distinct` the vectors that were answered new, each read back by its identifier.
 ///
 /// `NoMemory` comes before the first line is inserted.
 pub fn insert_plain<R: Threads + Sync, G: Gate>(

@@ -11,12 +11,12 @@ ghost use Rattle.treedb.specs.Lines.{is_reader};
 ghost use Rattle.treedb.specs.Note.{note_text, status_of};
 ghost use Rattle.treedb.specs.Offered.{flag_count, is_offered, offered, offered_plain};
 ghost use Rattle.treedb.specs.Outcome.{NotesEnd, Outcome};
-ghost use Rattle.treedb.specs.Run.{GivesWithin, OfPrinted, Prints, PrintsFront, is_printed, reads_to_end, valid_input};
+ghost use Rattle.treedb.specs.Run.{GivesWithin, OfPrinted, Prints, PrintsFront, PrintsTheLines, is_printed, reads_to_end, valid_input};
 
 use crate::ended::Ended;
 use crate::input::take_trace;
 use crate::notes::write_note;
-use crate::output::write_answers;
+use crate::output::{write_answers, write_distinct};
 use crate::pairs::insert_pairs;
 use crate::plain::insert_plain;
 use command_line::{Choice, ChoiceError, Job, Mode, choose};
@@ -36,7 +36,6 @@ fn answer_plain<R: Threads + Sync, S: Source, K: Sink, G: Gate>(
 ) -> Ended
     requires valid { IsValid choice.now }
     requires plain { choice.now.mode ≡ Mode.Plain }
-    requires job { choice.now.job ≢ Job.Distinct }
     ensures { Outcome (Some choice.now) S.left S.faults K.taken K.faults K.settled source.old source.new sink.old sink.new (status_of result) result }
 {
     let trace = match take_trace(alloc, choice, source) {
@@ -46,7 +45,10 @@ fn answer_plain<R: Threads + Sync, S: Source, K: Sink, G: Gate>(
     let Ok(answered) = insert_plain(rt, alloc, choice, &trace, gate) else {
         return Ended::NoMemory;
     };
-    write_answers(choice.job, &answered.replies, answered.stats, sink)
+    match &answered.vectors {
+        Some(vectors) => write_distinct(vectors, &answered.replies, sink),
+        None => write_answers(choice.job, &answered.replies, answered.stats, sink),
+    }
 }
 
 // What a choice of compact mode does as yet: its pairs are answered on the calling thread.
@@ -74,19 +76,12 @@ fn answer_pairs<S: Source, K: Sink, G: Gate>(
     write_answers(choice.job, &replies, None, sink)
 }
 
-// Whether the choice is one of plain mode that is offered.
+// Whether the choice is one of plain mode.
 fn is_plain(choice: &Choice) -> bool
     ensures value { result ≡ (is_offered choice.now && not (is_compact choice.now.mode)) }
     ensures mode { result ≡ true → choice.now.mode ≡ Mode.Plain }
-    ensures job { result ≡ true → choice.now.job ≢ Job.Distinct }
 {
-    match choice.mode {
-        Mode::Compact => false,
-        Mode::Plain => match choice.job {
-            Job::Distinct => false,
-            Job::Insert | Job::Bench => true,
-        },
-    }
+    choice.mode == Mode::Plain
 }
 
 // What words do in plain mode.
@@ -166,8 +161,8 @@ fn tell<N: Sink>(ended: Ended, notes: &mut N) -> Status
 
 /// What the program does in plain mode: the words choose, the lines are taken and inserted into a store by the workers, and the job's text is written.
 ///
-/// The first refusal is the answer, and then the sink is as it was: `Usage` for words that choose nothing, for compact mode, and for what isn't offered
-/// yet; `ReadFault` and `TooMuch` (more than 67,108,864 bytes) for the input; `BadTrace` for bytes that are no trace. `NoMemory` comes before the first
+/// The first refusal is the answer, and then the sink is as it was: `Usage` for words that choose nothing, and for compact mode;
+/// `ReadFault` and `TooMuch` (more than 67,108,864 bytes) for the input; `BadTrace` for bytes that are no trace. `NoMemory` comes before the first
 /// line is inserted. `WriteFault` leaves a front of the text. `Full` is the answer where some line is full and the whole text was written. The note of
 /// the end goes to `notes` last, and a fault there changes nothing. It waits for nobody.
 pub fn run_plain<R: Threads + Sync, S: Source, K: Sink, N: Sink, G: Gate>(
@@ -211,6 +206,8 @@ pub fn run_plain<R: Threads + Sync, S: Source, K: Sink, N: Sink, G: Gate>(
         → OfPrinted (offered_plain (map string_bytes words.now)) (S.left source.old) (K.taken sink.old) (K.taken sink.new) (λ run text. CountsDistinct run.trace run.replies) }
     ensures names_are_kept_for_good { is_printed result ≡ true
         → OfPrinted (offered_plain (map string_bytes words.now)) (S.left source.old) (K.taken sink.old) (K.taken sink.new) (λ run text. KeepsNames (flag_count run.choice.profile) run.history) }
+    ensures printed_vectors_are_those_of_the_lines { is_printed result ≡ true
+        → OfPrinted (offered_plain (map string_bytes words.now)) (S.left source.old) (K.taken sink.old) (K.taken sink.new) (λ run text. PrintsTheLines run text) }
 
     // The note of the end, but none for `Done`.
     ensures note { NotesEnd (offered_plain (map string_bytes words.now)) (S.left source.old) (K.taken sink.old) (K.taken sink.new) (N.taken notes.old) (N.taken notes.new) (N.faults notes.old) (N.faults notes.new) result }
@@ -265,6 +262,8 @@ pub fn run<R: Threads + Wait + Sync, S: Source, K: Sink, N: Sink, G: Gate>(
         → OfPrinted (offered (map string_bytes words.now)) (S.left source.old) (K.taken sink.old) (K.taken sink.new) (λ run text. CountsDistinct run.trace run.replies) }
     ensures names_are_kept_for_good { is_printed result ≡ true
         → OfPrinted (offered (map string_bytes words.now)) (S.left source.old) (K.taken sink.old) (K.taken sink.new) (λ run text. KeepsNames (flag_count run.choice.profile) run.history) }
+    ensures printed_vectors_are_those_of_the_lines { is_printed result ≡ true
+        → OfPrinted (offered (map string_bytes words.now)) (S.left source.old) (K.taken sink.old) (K.taken sink.new) (λ run text. PrintsTheLines run text) }
 
     // The note of the end, but none for `Done`.
     ensures note { NotesEnd (offered (map string_bytes words.now)) (S.left source.old) (K.taken sink.old) (K.taken sink.new) (N.taken notes.old) (N.taken notes.new) (N.faults notes.old) (N.faults notes.new) result }

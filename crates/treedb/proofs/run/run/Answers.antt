@@ -1,6 +1,6 @@
 use Rattle.std.proofs.Common.{map, string_bytes}
 use Rattle.treedb.specs.Offered.{offered}
-use Rattle.treedb.proofs.RunLemmas.{run_different, run_distinct, run_equal, run_keeps, run_names, run_once}
+use Rattle.treedb.proofs.RunLemmas.{run_different, run_distinct, run_equal, run_keeps, run_lines, run_names, run_once}
 use Rattle.treedb.proofs.run.run.Goals as goal
 
 pub returns-clause-equal_lines_have_equal_identifiers : goal.returns-clause-equal_lines_have_equal_identifiers
@@ -20,3 +20,6 @@ returns-clause-printed_count_is_the_number_of_distinct_lines g c = λ printed ru
 
 pub returns-clause-names_are_kept_for_good : goal.returns-clause-names_are_kept_for_good
 returns-clause-names_are_kept_for_good g c = λ printed run text is_text taken. run_keeps (offered (map string_bytes c.args.words.now)) (g.S.Source.left c.args.source.now) run
+
+pub returns-clause-printed_vectors_are_those_of_the_lines : goal.returns-clause-printed_vectors_are_those_of_the_lines
+returns-clause-printed_vectors_are_those_of_the_lines g c = λ printed run text is_text taken. run_lines (offered (map string_bytes c.args.words.now)) (g.S.Source.left c.args.source.now) run text is_text

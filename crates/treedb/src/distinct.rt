@@ -1,0 +1,219 @@
+//! The vectors that lines were answered new, read back from the store by their identifiers, in rising list order.
+ghost use Rattle.std.specs.Prelude.{◌≡◌, ◌+◌, ◌*◌, ◌++◌, ◌∷◌, ◌≤◌, ◌<◌, ◌^◌, [], ℕ, All, IfOk, IfSome, List, Some, IsPermutation, drop, length, map, slice_get, take, vec_capacity};
+ghost use Rattle.std.specs.List.Sorted.{IsSortedByKey};
+ghost use Rattle.tdb_base.specs.History.{name_of};
+ghost use Rattle.tdb_base.specs.Legal.{Extends};
+ghost use Rattle.pair_rule.specs.Rest.{view};
+ghost use Rattle.root_plain.specs.Plays.{Rests};
+ghost use Rattle.trace_csv.specs.Sorted.{list_order};
+ghost use Rattle.trace_csv.specs.Vectors.{vector_at as vector_of_number};
+ghost use Rattle.treedb.specs.ReadBack.{Adds, AwaitsLines, HasRoom, IfPrinted, IsCounted, IsReadBy, KeepsRoom, ReadsInto, new_id, new_ids, vectors};
+ghost use Rattle.tree_store.specs.Store.{Advanced};
+
+use command_line::Job;
+use std::alloc::Global;
+use tdb_base::{NoMemory, Reply};
+use tree_store::{PlainPass, PlainStore};
+
+/// Vectors of so many slots that stand one after the other, and their numbers in the order in which they are written.
+#[derive(Drop)]
+pub struct ReadBack {
+    pub slots: usize,
+    pub flat: Vec<u32>,
+    pub order: Vec<u32>,
+}
+
+// The vector of this number; short where the list ends before.
+fn vector_at(slots: usize, flat: &[u32], number: u32) -> &[u32]
+    requires { slots ≤ 1024 }
+    ensures { result.now ≡ vector_of_number slots flat.now number }
+{
+    let Some((_, rest)) = flat.split_at_checked(number as usize * slots) else {
+        return &[];
+    };
+    match rest.split_at_checked(slots) {
+        Some((vector, _)) => vector,
+        None => rest,
+    }
+}
+
+// Reads the vector of an identifier into the slots from a place on.
+fn read_at<const W: u32, const F: u32>(
+    store: &PlainStore<W, F>,
+    pass: &mut PlainPass<W, F>,
+    id: u64,
+    slots: usize,
+    at: usize,
+    flat: &mut [u32],
+)
+    requires rest { Rests store.now.nodes.table.table.shared.table_id store.now.nodes.table.about pass.old }
+    requires named { (vector : List ℕ) × (name_of (view pass.old).seen vector ≡ Some id) }
+    requires slots { slots ≡ store.now.nodes.table.about.slots }
+    requires there { at + slots ≤ length flat.old }
+    ensures rest { Rests store.now.nodes.table.table.shared.table_id store.now.nodes.table.about pass.new }
+    ensures no_call { Advanced [] (view pass.old) (view pass.new) }
+    ensures written { (vector : List ℕ) × (length vector ≡ slots) × (name_of (view pass.old).seen vector ≡ Some id) × (flat.new ≡ take at flat.old ++ (vector ++ drop (at + slots) flat.old)) }
+{
+    let (_, rest) = flat.split_at_mut(at);
+    let (out, _) = rest.split_at_mut(slots);
+    store.read(pass, id, out);
+}
+
+impl ReadBack {
+    // Room for so many vectors.
+    fn new(alloc: Global, slots: usize, lines: u64) -> Result<ReadBack, NoMemory>
+        requires slots { (2 ≤ slots) × (slots ≤ 1024) }
+        requires lines { lines ≤ 2 ^ 32 }
+        ensures { IfOk result (AwaitsLines slots lines) }
+    {
+        Ok(ReadBack {
+            slots,
+            flat: vec![in alloc; 0; lines as usize * slots]?,
+            order: Vec::with_capacity(alloc, lines as usize)?,
+        })
+    }
+
+    // Reads back one vector more.
+    fn add<const W: u32, const F: u32>(
+        &mut self,
+        store: &PlainStore<W, F>,
+        pass: &mut PlainPass<W, F>,
+        id: u64,
+    )
+        requires rest { Rests store.now.nodes.table.table.shared.table_id store.now.nodes.table.about pass.old }
+        requires named { (vector : List ℕ) × (name_of (view pass.old).seen vector ≡ Some id) }
+        requires slots { self.old.slots ≡ store.now.nodes.table.about.slots }
+        requires room { HasRoom 1 self.old }
+        requires counted { IsCounted self.old }
+        ensures rest { Rests store.now.nodes.table.table.shared.table_id store.now.nodes.table.about pass.new }
+        ensures no_call { Advanced [] (view pass.old) (view pass.new) }
+        ensures room { KeepsRoom self.old self.new }
+        ensures counted { IsCounted self.new }
+        ensures one_more { length self.new.order.items ≡ length self.old.order.items + 1 }
+        ensures vector { (vector : List ℕ) × (name_of (view pass.old).seen vector ≡ Some id) × (vectors self.new ≡ vectors self.old ++ vector ∷ []) }
+    {
+        let number = self.order.len();
+        let at = number * self.slots;
+        read_at(store, pass, id, self.slots, at, &mut self.flat);
+        let Ok(()) = self.order.push(number as u32) else {
+            unreachable!()
+        };
+    }
+
+    // Reads back the vector of a reply that is new.
+    fn add_new<const W: u32, const F: u32>(
+        &mut self,
+        store: &PlainStore<W, F>,
+        pass: &mut PlainPass<W, F>,
+        reply: Reply,
+    )
+        requires rest { Rests store.now.nodes.table.table.shared.table_id store.now.nodes.table.about pass.old }
+        requires named { IfSome (new_id reply) (λ id. (vector : List ℕ) × (name_of (view pass.old).seen vector ≡ Some id)) }
+        requires slots { self.old.slots ≡ store.now.nodes.table.about.slots }
+        requires room { HasRoom 1 self.old }
+        requires counted { IsCounted self.old }
+        ensures rest { Rests store.now.nodes.table.table.shared.table_id store.now.nodes.table.about pass.new }
+        ensures later { Extends (view pass.old).seen (view pass.new).seen }
+        ensures room { KeepsRoom self.old self.new }
+        ensures counted { IsCounted self.new }
+        ensures one_more { length self.new.order.items ≤ length self.old.order.items + 1 }
+        ensures added { Adds (view pass.old).seen (new_id reply) (vectors self.old) (vectors self.new) }
+    {
+        match reply {
+            Reply::New(id) => self.add(store, pass, id),
+            Reply::Seen(_) | Reply::FullNodes | Reply::FullRoots => {}
+        }
+    }
+
+    // Reads back the vectors of the replies that are new, in their order.
+    fn add_all<const W: u32, const F: u32>(
+        &mut self,
+        store: &PlainStore<W, F>,
+        pass: &mut PlainPass<W, F>,
+        replies: &[Reply],
+    )
+        requires rest { Rests store.now.nodes.table.table.shared.table_id store.now.nodes.table.about pass.old }
+        requires named { All (λ reply. IfSome (new_id reply) (λ id. (vector : List ℕ) × (name_of (view pass.old).seen vector ≡ Some id))) replies.now }
+        requires slots { self.old.slots ≡ store.now.nodes.table.about.slots }
+        requires room { HasRoom (length replies.now) self.old }
+        requires empty { self.old.order.items ≡ [] }
+        ensures slots { self.new.slots ≡ self.old.slots }
+        ensures room { HasRoom 0 self.new }
+        ensures counted { IsCounted self.new }
+        ensures names { map (name_of (view pass.old).seen) (vectors self.new) ≡ map Some (new_ids replies.now) }
+    {
+        for reply in replies {
+            self.add_new(store, pass, *reply);
+        }
+    }
+
+    // Brings the numbers into list order of their vectors.
+    fn sort(&mut self)
+        requires { self.old.slots ≤ 1024 }
+        ensures slots { self.new.slots ≡ self.old.slots }
+        ensures flat { self.new.flat ≡ self.old.flat }
+        ensures permutation { IsPermutation self.old.order.items self.new.order.items }
+        ensures sorted { IsSortedByKey (vector_of_number self.old.slots self.old.flat.items) list_order self.new.order.items }
+    {
+        let slots = self.slots;
+        let flat = self.flat.as_slice();
+        self.order.sort_unstable_by(|a, b| {
+            let left = vector_at(slots, flat, *a);
+            left.cmp(vector_at(slots, flat, *b))
+        });
+    }
+
+    // Reads back the vectors of the replies that are new, in rising list order.
+    fn fill<const W: u32, const F: u32>(
+        mut self,
+        store: &PlainStore<W, F>,
+        pass: &mut PlainPass<W, F>,
+        replies: &[Reply],
+    ) -> ReadBack
+        requires rest { Rests store.now.nodes.table.table.shared.table_id store.now.nodes.table.about pass.old }
+        requires named { All (λ reply. IfSome (new_id reply) (λ id. (vector : List ℕ) × (name_of (view pass.old).seen vector ≡ Some id))) replies.now }
+        requires room { AwaitsLines store.now.nodes.table.about.slots (length replies.now) self }
+        ensures { IsReadBy (view pass.old).seen (new_ids replies.now) result }
+    {
+        self.add_all(store, pass, replies);
+        self.sort();
+        self
+    }
+}
+
+/// Room for the vectors of so many lines, where the job prints vectors.
+pub fn take_room(
+    alloc: Global,
+    job: Job,
+    slots: usize,
+    lines: u64,
+) -> Result<Option<ReadBack>, NoMemory>
+    requires slots { (2 ≤ slots) × (slots ≤ 1024) }
+    requires lines { lines ≤ 2 ^ 32 }
+    ensures { IfOk result (λ room. IfPrinted job room (AwaitsLines slots lines)) }
+{
+    match job {
+        Job::Distinct => Ok(Some(ReadBack::new(alloc, slots, lines)?)),
+        Job::Insert | Job::Bench => Ok(None),
+    }
+}
+
+/// Reads back the vectors of the replies that are new by their identifiers, in rising list order, where there is room for them.
+///
+/// It takes no memory, so it always succeeds.
+pub fn read_back<const W: u32, const F: u32>(
+    store: &PlainStore<W, F>,
+    pass: &mut PlainPass<W, F>,
+    replies: &[Reply],
+    room: Option<ReadBack>,
+) -> Option<ReadBack>
+    requires rest { Rests store.now.nodes.table.table.shared.table_id store.now.nodes.table.about pass.old }
+    requires named { All (λ reply. IfSome (new_id reply) (λ id. (vector : List ℕ) × (name_of (view pass.old).seen vector ≡ Some id))) replies.now }
+    requires room { IfSome room (AwaitsLines store.now.nodes.table.about.slots (length replies.now)) }
+    ensures { ReadsInto (view pass.old).seen (new_ids replies.now) room result }
+{
+    match room {
+        Some(back) => Some(back.fill(store, pass, replies)),
+        None => None,
+    }
+}
