@@ -98,6 +98,12 @@ wants 'lines 100000\ndistinct 74191\n'
 check "drawn lines" 0 "" bench --lines 100000 --slots 32 --values 4 --seed 1 < /dev/null
 check "drawn lines by 8 workers" 0 "" bench --lines 100000 --slots 32 --values 4 --seed 1 --workers 8 < /dev/null
 
+LC_ALL=C sort -t, -k1,1n -k2,2n -u "$work/pairs.csv" > "$work/wanted"
+check "the different pairs of 200,000, beside sort" 0 "" distinct < "$work/pairs.csv"
+check "the same by 8 workers" 0 "" distinct --workers 8 < "$work/pairs.csv"
+wants '3,5\n5,3\n'
+check "two different pairs" 0 "" distinct < examples/pairs.csv
+
 wants '1,805306373,new\n2,1342177283,new\n3,805306373,seen\nlines 3\ndistinct 2\n'
 check "three pairs in compact mode" 0 "" insert --mode compact < examples/pairs.csv
 wants_pairs examples/peterson.csv
@@ -133,6 +139,34 @@ if [ "$was" -eq 7 ] && [ "$(cat "$work/notes")" = "treedb: write fault" ]; then
   tell "a pipe that closes early" yes
 else
   tell "a pipe that closes early" no "status $was, wanted 7"
+fi
+
+# the manual's example: its commands, and what they write
+block() { awk -v fence="\`\`\`$1" '$0 == fence { inside = 1; next } /^\`\`\`/ { inside = 0 } inside' docs/MANUAL.md; }
+block sh > "$work/example"
+block text > "$work/wanted"
+bash "$work/example" > "$work/got" 2> "$work/notes"
+if [ -s "$work/wanted" ] && cmp -s "$work/got" "$work/wanted" && [ "$(cat "$work/notes")" = "treedb: 1 lines full" ]; then
+  tell "the manual's example" yes
+else
+  tell "the manual's example" no "$(diff "$work/got" "$work/wanted" | head -n 5)"
+fi
+
+# the man page has each option and each note of the manual, and the manual each option of the usage text
+./treedb 2> "$work/notes"
+lacking=$(
+  grep -oE -- '--[a-z]+' "$work/notes" | sort -u | while read -r option; do
+    grep -q -- "^| \`$option\`" docs/MANUAL.md || echo "MANUAL.md: $option"
+    sed 's/\\-/-/g' docs/treedb.1 | grep -qE -- "^\.B[IR]? $option" || echo "treedb.1: $option"
+  done
+  sed -n '/^## Exit status/,/^## Choosing/p' docs/MANUAL.md | grep -oE '\`[^\`]+\` \|$' | sed 's/^.//; s/. |$//' | while read -r note; do
+    grep -qF "$note" docs/treedb.1 || echo "treedb.1: $note"
+  done
+)
+if [ -z "$lacking" ]; then
+  tell "the man page and the manual" yes
+else
+  tell "the man page and the manual" no "$lacking"
 fi
 
 echo "$passed passed, $failed failed"
