@@ -85,6 +85,8 @@ awk 'BEGIN { x = 7; for (i = 0; i < 100000; i++) { x = (x * 16807) % 2147483647;
 
 wants '1,4,new\n2,7,new\n3,4,seen\nlines 3\ndistinct 2\n'
 check "three pairs" 0 "" insert < examples/pairs.csv
+wants '1,0,new\n2,3,new\n3,6,new\n4,7,new\n5,2,new\n6,1,new\n7,4,new\n8,5,new\n9,,full-roots\nlines 9\ndistinct 8\n'
+check "a root table that fills up" 5 "treedb: 1 lines full" insert --roots 3 < <(printf '0,0\n0,1\n0,2\n0,3\n0,4\n0,5\n0,6\n0,7\n0,8\n')
 wants '1,0,new\nlines 1\ndistinct 1\nnodes 1\nstored 16\nraw 20\n'
 check "statistics of one vector" 0 "" insert --stats < <(printf '0,0,0,0,0\n')
 check_names "Peterson's protocol" examples/peterson.csv insert

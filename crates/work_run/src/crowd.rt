@@ -159,12 +159,14 @@ fn tells_the_gate_of_each_line(rt: HostRuntime) -> Result<(), Fail> {
     Ok(())
 }
 
-// Whether so many workers of one line each could not keep the order that the gate asks for.
-fn times_out<R: Threads + Abort + Sync>(
+// Whether so many workers, who all insert the same line, kept the order that a gate asks for: the line that is held
+// went on when the other one was done, and so isn't the one that is new.
+fn keep_order<R: Threads + Abort + Sync>(
     rt: &R,
     alloc: Global,
     workers: u64,
-    gate: &TurnGate,
+    held: u64,
+    until: u64,
 ) -> Result<bool, Fail> {
     let (store, mut pass) = store(alloc, 2, 3, 3)?;
     let mut text = Vec::new(alloc);
@@ -172,17 +174,20 @@ fn times_out<R: Threads + Abort + Sync>(
         text.extend_from_slice(b"3,5\n")?;
     }
     let trace = lines(rt, alloc, &store, text.as_slice())?;
-    run(rt, alloc, &store, &mut pass, &trace, workers, 1, gate)?;
-    Ok(gate.timed_out())
+    let gate = TurnGate::new(held, until, 1_000_000_000);
+    let replies = run(rt, alloc, &store, &mut pass, &trace, workers, 1, &gate)?;
+    let Some(reply) = replies.get((held as usize).wrapping_sub(1)) else {
+        return Ok(false);
+    };
+    Ok(!gate.timed_out() && !reply.is_new())
 }
 
 #[test]
 fn workers_run_at_once(rt: HostRuntime) -> Result<(), Fail> {
     for workers in [2, 8, 64] {
-        let first = TurnGate::new(1, workers, 1_000_000_000);
-        assert!(rt; !times_out(&rt, rt.alloc(), workers, &first)?);
-        let last = TurnGate::new(workers, 1, 1_000_000_000);
-        assert!(rt; !times_out(&rt, rt.alloc(), workers, &last)?);
+        for (held, until) in [(1, 2), (2, 1), (1, workers), (workers, 1)] {
+            assert!(rt; keep_order(&rt, rt.alloc(), workers, held, until)?);
+        }
     }
     let alone = TurnGate::new(1, 2, 1000);
     let (store, mut pass) = store(rt.alloc(), 2, 3, 3)?;

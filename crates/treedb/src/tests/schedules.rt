@@ -93,6 +93,25 @@ fn workers_run_at_once(rt: HostRuntime) -> Result<(), Fail> {
     Ok(())
 }
 
+// A line that waits for its equal is inserted after it.
+#[test]
+fn the_line_that_waits_is_seen(rt: HostRuntime) -> Result<(), Fail> {
+    let alloc = rt.alloc();
+    for (held, until, text) in [
+        (1, 2, "1,6,seen\n2,6,new\nlines 2\ndistinct 1\n"),
+        (2, 1, "1,6,new\n2,6,seen\nlines 2\ndistinct 1\n"),
+    ] {
+        let gate = TurnGate::new(held, until, LONG);
+        let words = ["insert", "--workers", "2", "--block", "1"];
+        let input = b"1,2\n1,2\n".to_vec(alloc)?;
+        let ran = run_plain_on(&rt, alloc, &words, input, SOUND, &gate)?;
+        assert_eq!(rt; ran.status, Status::Done);
+        assert!(rt; !gate.timed_out());
+        assert_eq!(rt; ran.text.bytes(), text.as_bytes());
+    }
+    Ok(())
+}
+
 #[test]
 fn one_worker_keeps_the_order(rt: HostRuntime) -> Result<(), Fail> {
     let alloc = rt.alloc();
