@@ -35,12 +35,12 @@ use Rattle.work_run.specs.Crew.{lefts, joints, IsHired, Hired, HasTaken, Joined}
 use Rattle.work_run.specs.Full.{IsOfOne}
 use Rattle.work_run.specs.Inserted.{puts_of, Inserted}
 use Rattle.work_run.specs.Work.{HasAnswered}
-use Rattle.work_run.specs.Ran.{OneHistory, FullAreBarred, NewNodesAreOfLines, puts_of_worker, puts_of_all}
+use Rattle.work_run.specs.Ran.{KeepsPass, OneHistory, FullAreBarred, NewNodesAreOfLines, puts_of_worker, puts_of_all}
 use Rattle.work_run.proofs.Answered.{barred_more, of_one_more}
 use Rattle.work_run.proofs.Dealing.{mine-turn}
 use Rattle.work_run.proofs.Elements.{has_or_not, has_map, has_unmap, has_place, placed, numbered_at, at_numbered}
 use Rattle.work_run.proofs.Hires.{given, lefts_stay, whole_again}
-use Rattle.work_run.proofs.Joins.{numbers_other}
+use Rattle.work_run.proofs.Joins.{numbers_first, numbers_other}
 use Rattle.work_run.proofs.Mine.{picked_at, picked_has}
 
 module _ {T : Type 0} where
@@ -74,6 +74,10 @@ module _ {T : Type 0} where
         (made_either v ws i a))
         (λ (b : Has i w.made). let found : (u : View T) × Has u (w ∷ ws) × Has i u.made = (w, inl refl, b) in inr found)
         (has_either i (joints glue v ws).made w.made h)
+
+    joints_number : (v : View T) (ws : List (View T)) → (joints glue v ws).number ≡ v.number
+    joints_number v [] = refl
+    joints_number v (w ∷ ws) = joints_number v ws
 
     -- the probes of views that were joined into one
     probes_within : (v : View T) (ws : List (View T)) (most : ℕ → ℕ) (from : ℕ) → ((j : ℕ) (d : View T) → j < length ws → (get_or ws j d).probes ≤ most (from + j))
@@ -351,13 +355,27 @@ module _ (table : TableId) (about : About) (cut : Roots → Roots) (glue : Roots
       let total = ap (λ (n : ℕ). sum (map most (range_with_len 0 n))) long in
       omega (arith, few, same, total, (lefts_stay workers v0).probes)
 
+  -- what the pass had
+  kept_run : KeepsPass base new
+  kept_run =
+      let stay = lefts_stay workers v0 in
+      record {
+        pass_is = joint.pass_is ∙ (λ i. record (hired.pass_is i) { seat = new.seat; nodes_count = new.nodes_count; names_count = new.names_count });
+        number = ap (λ (u : View Roots). u.number) joined_is ∙ (joints_number glue (lefts workers v0) views ∙ stay.number);
+        numbers = λ c h. subst (λ (u : View Roots). Has c u.numbers) (sym joined_is) (numbers_first glue (lefts workers v0) views c (subst (λ (x : List ℕ). Has c x) (sym stay.numbers) h));
+        calls_stay = old_calls;
+        known = λ i x h. joint.base_taken.known i x (subst (λ (y : List (ℕ × ℕ)). Has (i, x) y) (sym (ap (λ (u : View Roots). u.known) now_is ∙ stay.known)) h);
+        roots = λ i x h. joint.base_taken.roots_of i x (subst (λ (y : Roots). Has (i, x) y.roots) (sym (ap (λ (u : View Roots). u.root) now_is ∙ stay.root)) h);
+      }
+
   -- all of it
   pub record Runs : Type 0 where
     pub one_history : OneHistory about trace replies workers block v0 (view new)
+    pub kept : KeepsPass base new
     pub whole : Whole v0 → Whole (view new)
     pub nodes : NewNodesAreOfLines about trace v0 (view new)
     pub full : FullAreBarred about trace replies (view new)
     pub probes : (view new).probes ≤ v0.probes + puts_of_all about trace replies workers block
 
   pub runs : Runs
-  runs = record { one_history = history_run; whole = whole_run; nodes = nodes_run; full = full_run; probes = probes_run }
+  runs = record { one_history = history_run; kept = kept_run; whole = whole_run; nodes = nodes_run; full = full_run; probes = probes_run }

@@ -1,14 +1,15 @@
 -- What a run of workers leaves: the replies to a trace's lines, and the pass into which the workers' passes were joined.
 use Rattle.std.specs.Prelude.{◌≡◌, ◌*◌, ◌-◌, ◌≤◌, ◌⊎◌, ℕ, List, Some, None, Contains, length, slice_get, map, sum}
 use Rattle.std.specs.List.{range_with_len}
-use Rattle.tree_shape.specs.Tree.{Has}
+use Rattle.tree_shape.specs.Tree.{Has, IsPart}
 use Rattle.tdb_base.specs.Agrees.{AgreesAmongOthers, Agrees}
-use Rattle.tdb_base.specs.History.{Vector}
+use Rattle.tdb_base.specs.History.{Vector, calls}
 use Rattle.tdb_base.specs.Lines.{mine, picked}
 use Rattle.tdb_base.specs.declared.reply.Reply.{Reply}
 use Rattle.pair_rule.specs.declared.view.View.{View}
 use Rattle.pair_rule.specs.declared.sizes.About.{About}
-use Rattle.pair_rule.specs.Rest.{Whole}
+use Rattle.pair_rule.specs.declared.pass.PassOf.{PassOf}
+use Rattle.pair_rule.specs.Rest.{Whole, view}
 use Rattle.root_plain.specs.declared.root.Roots.{Roots}
 use Rattle.work_run.specs.Full.{Barred, IsOfOne}
 use Rattle.work_run.specs.Inserted.{puts_of}
@@ -22,6 +23,15 @@ pub record RanAs (about : About) (trace : List Vector) (replies : List Reply) (w
 
 abbrev pub OneHistory : About → List Vector → List Reply → (workers block : ℕ) → (old new : View Roots) → Type 0
 OneHistory about trace replies workers block old new = (callers : List ℕ) × RanAs about trace replies workers block old new callers
+
+-- the pass knows all that it knew, its calls are those that it had, and its last tree stays
+pub record KeepsPass (old new : PassOf Roots) : Type 0 where
+  pub pass_is : new ≡ record old { seat = new.seat; nodes_count = new.nodes_count; names_count = new.names_count }
+  pub number : (view new).number ≡ (view old).number
+  pub numbers : (c : ℕ) → Has c (view old).numbers → Has c (view new).numbers
+  pub calls_stay : (c : ℕ) → Has c (view old).numbers → calls (view new).seen c ≡ calls (view old).seen c
+  pub known : IsPart (view old).known (view new).known
+  pub roots : IsPart (view old).root.roots (view new).root.roots
 
 -- each line that is answered full has a pair for which there is no place, in what the pass knows then
 abbrev pub FullAreBarred : About → List Vector → List Reply → View Roots → Type 0

@@ -4,7 +4,7 @@ ghost use Rattle.pair_rule.specs.Rest.{Whole, view};
 ghost use Rattle.root_plain.specs.Plays.{Rests};
 ghost use Rattle.tree_store.specs.Vectors.{IsVector};
 ghost use Rattle.work_run.specs.Crew.{Unused};
-ghost use Rattle.work_run.specs.Ran.{OneHistory, FullAreBarred, NewNodesAreOfLines, FewPuts, puts_of_all};
+ghost use Rattle.work_run.specs.Ran.{KeepsPass, OneHistory, FullAreBarred, NewNodesAreOfLines, FewPuts, puts_of_all};
 
 use crate::crew::{dismiss, hire};
 use crate::place::place;
@@ -38,6 +38,7 @@ pub fn run_lines<R: Threads + Sync, G: Gate, const W: u32, const F: u32>(
     requires block { (1 ≤ block) × (block ≤ 65536) }
     ensures rest { Rests store.now.nodes.table.table.shared.table_id store.now.nodes.table.about pass.new }
     ensures one_history { IfOk result (λ replies. OneHistory store.now.nodes.table.about trace.now replies.items workers block (view pass.old) (view pass.new)) }
+    ensures kept { OnOk result (KeepsPass pass.old pass.new) }
     ensures whole { OnOk result (Whole (view pass.old) → Whole (view pass.new)) }
     ensures nodes { OnOk result (NewNodesAreOfLines store.now.nodes.table.about trace.now (view pass.old) (view pass.new)) }
     ensures full { IfOk result (λ replies. FullAreBarred store.now.nodes.table.about trace.now replies.items (view pass.new)) }

@@ -30,4 +30,4 @@ returns g c =
     let here = subst (λ (x : List (Worker Roots)). (j : ℕ) (d : Worker Roots) → j < length x → picked replies (mine (length trace) (length x) c.args.block j) ≡ (get_or x j d).replies.items) c.deref.ensures.value placed in
     let r = runs t.table.shared.table_id t.about (λ x. x) both_roots rooms c.args.pass.now c.hire.new.pass c.dismiss.new.pass trace replies c.args.workers c.args.block crew after
     hired.hired hired.all c.requires.workers.0 c.requires.block.0 worked.answered worked.all (c.place.ensures.all ∙ c.len-3.ensures.count) here c.dismiss.ensures in
-    record { rest = c.dismiss.ensures.rest; one_history = r.one_history; whole = r.whole; nodes = r.nodes; full = r.full; probes = r.probes; refused = tt }
+    record { rest = c.dismiss.ensures.rest; one_history = r.one_history; kept = r.kept; whole = r.whole; nodes = r.nodes; full = r.full; probes = r.probes; refused = tt }
