@@ -1,15 +1,11 @@
 -- Choices that are offered.
-use Rattle.std.proofs.Common.{◌≡◌, ◌≢◌, List, ℕ, Bool, true, false, Option, Some, None, refl, sym, ap, ◌∙◌, subst}
-use Rattle.std.specs.Prelude.{◌&&◌, not, if◌then◌else◌, option_and_then}
+use Rattle.std.proofs.Common.{◌≡◌, List, false, Some, None, refl, ap}
 use Rattle.clap.specs.Words.{Text}
 use Rattle.command_line.specs.Choose.{chosen}
 use Rattle.command_line.specs.Rules.{is_compact}
-use Rattle.command_line.specs.declared.outcome.Job.{Job}
-use Rattle.command_line.specs.declared.outcome.Job.TheVariants.{Insert, Distinct, Bench}
-use Rattle.command_line.specs.declared.outcome.Mode.{Mode}
-use Rattle.command_line.specs.declared.outcome.Mode.TheVariants.{Plain, Compact}
+use Rattle.command_line.specs.declared.outcome.Mode.TheVariants.{Plain}
 use Rattle.command_line.specs.declared.outcome.Choice.{Choice}
-use Rattle.treedb.specs.Offered.{is_offered, offered, offered_plain}
+use Rattle.treedb.specs.Offered.{offered, offered_plain}
 
 is_plain : (c : Choice) → c.mode ≡ Plain → is_compact c.mode ≡ false
 is_plain c plain = ap is_compact plain

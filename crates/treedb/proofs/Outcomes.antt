@@ -1,5 +1,5 @@
 -- From what the parts of a run leave to what is told of its end.
-use Rattle.std.proofs.Common.{◌≡◌, ◌≢◌, ◌⊎◌, ◌↔◌, ◌<◌, ℕ, zero, suc, List, [], ◌∷◌, length, ◌+◌, Bool, true, false, cond, Option, Some, None, refl, sym, ap, ◌∙◌, subst, inl, inr, ⊎_elim, arith}
+use Rattle.std.proofs.Common.{◌≡◌, ◌≢◌, ◌<◌, ℕ, zero, suc, List, [], ◌∷◌, ◌+◌, Bool, true, false, cond, Option, Some, None, refl, sym, ap, ◌∙◌, subst, ⊎_elim, arith}
 use Rattle.std.proofs.lemmas.List.Sums.{sum_by-cons}
 use Rattle.std.specs.Prelude.{◌||◌, IfSome, Result, Ok, Err, count_by}
 use Rattle.std.specs.List.{list_any, range_with_len}
@@ -11,7 +11,6 @@ use Rattle.tdb_base.specs.Replies.{is_full}
 use Rattle.tdb_base.specs.declared.reply.Reply.{Reply}
 use Rattle.tdb_base.specs.declared.reply.Status.{Status}
 use Rattle.tdb_base.specs.declared.reply.Status.TheVariants as s
-use Rattle.trace_csv.specs.Input.{limit}
 use Rattle.trace_csv.specs.Output.{TakesFront}
 use Rattle.trace_csv.specs.declared.report.Stats.{Stats}
 use Rattle.command_line.specs.declared.outcome.Job.{Job}
@@ -22,11 +21,10 @@ use Rattle.treedb.specs.Note.{status_of}
 use Rattle.treedb.specs.Offered.{flag_count}
 use Rattle.treedb.specs.Outcome.{IsDetail, Outcome}
 use Rattle.treedb.specs.Reading.{EndsReading, GaveWithin, IsRefusedFor, ReadsToEnd}
-use Rattle.treedb.specs.Run.{GivesWithin, IsOfMode, IsText, Prints, PrintsFront, Run, is_printed, reads_to_end, valid_input}
+use Rattle.treedb.specs.Run.{GivesWithin, IsOfMode, IsText, Prints, Run, is_printed, reads_to_end}
 use Rattle.treedb.specs.Writing.{WritesAnswers, WritesText, ended_with, ended_with_full, text_of}
 use Rattle.treedb.specs.declared.ended.Ended.{Ended}
 use Rattle.treedb.specs.declared.ended.Ended.TheVariants as e
-use Rattle.treedb.specs.declared.ended.Refusal.{Refusal}
 use Rattle.treedb.proofs.LineLemmas.{none_read}
 
 -- what the source gave in reading is what it gave in the run

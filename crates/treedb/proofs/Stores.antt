@@ -1,12 +1,11 @@
 -- From what a run of workers leaves of a store to the replies of one history, with workers numbered from 0.
-use Rattle.std.proofs.Common.{◌≡◌, ◌⊎◌, ◌↔◌, ℕ, suc, ◌+◌, ◌*◌, ◌-◌, ◌<◌, ◌≤◌, List, [], ◌∷◌, length, Bool, true, false, Option, Some, None, refl, sym, ap, ◌∙◌, subst, inl, inr, ⊎_elim, arith}
-use Rattle.std.specs.Prelude.{All, Contains, slice_get, count_by, ⊤, map}
-use Rattle.std.specs.List.{list_any, range_with_len, sum_by, zip}
+use Rattle.std.proofs.Common.{◌≡◌, ℕ, suc, ◌+◌, ◌*◌, ◌-◌, ◌<◌, ◌≤◌, List, [], ◌∷◌, length, Bool, true, false, Option, Some, None, refl, sym, ap, ◌∙◌, subst, ⊎_elim, arith}
+use Rattle.std.specs.Prelude.{slice_get, count_by}
+use Rattle.std.specs.List.{list_any, range_with_len}
 use Rattle.atomic_table.specs.Seated.{TableId}
 use Rattle.tree_shape.specs.Tree.{Has}
 use Rattle.tdb_base.specs.Agrees.{Agrees}
-use Rattle.tdb_base.specs.History.{Vector, Entry, History, is_fresh, name_of}
-use Rattle.tdb_base.specs.Legal.{IsLegal}
+use Rattle.tdb_base.specs.History.{Vector, History}
 use Rattle.tdb_base.specs.Renamed.{renamed, place_of}
 use Rattle.tdb_base.specs.Replies.{is_new, is_full, id_of}
 use Rattle.tdb_base.specs.declared.reply.Reply.{Reply}
@@ -20,20 +19,17 @@ use Rattle.tree_store.proofs.Census.{names_all}
 use Rattle.pair_rule.specs.declared.view.View.{View}
 use Rattle.pair_rule.specs.declared.sizes.About.{About}
 use Rattle.pair_rule.specs.declared.pass.PassOf.{PassOf}
-use Rattle.pair_rule.specs.Laws.{IsAbout}
 use Rattle.pair_rule.specs.Rest.{Housed, Whole, names_of_callers, view}
-use Rattle.pair_rule.specs.Rule.{Named}
 use Rattle.pair_rule.specs.View.{newcomer}
 use Rattle.root_plain.specs.declared.root.Roots.{Roots}
-use Rattle.root_plain.specs.Plain.{no_roots, sized, count}
+use Rattle.root_plain.specs.Plain.{no_roots}
 use Rattle.root_plain.specs.Plays.{Rests, house_of}
 use Rattle.root_plain.proofs.PassLaws.{has_all}
-use Rattle.tree_store.specs.Vectors.{IsInTree}
-use Rattle.work_run.specs.Full.{Barred, Filled, IsOfOne}
-use Rattle.work_run.specs.Ran.{OneHistory, FullAreBarred, NewNodesAreOfLines, puts_of_all}
+use Rattle.work_run.specs.Full.{Filled, IsOfOne}
+use Rattle.work_run.specs.Ran.{OneHistory, FullAreBarred, NewNodesAreOfLines}
 use Rattle.trace_csv.specs.declared.report.Stats.{Stats}
 use Rattle.command_line.specs.declared.outcome.Choice.{Choice}
-use Rattle.treedb.specs.Answered.{AreSizesOf, CountsOf}
+use Rattle.treedb.specs.Answered.{CountsOf}
 use Rattle.treedb.specs.Offered.{flag_count}
 use Rattle.treedb.specs.Stored.{IsAboutChoice, Counts, AreTold, NodesAreNamed, InStore}
 

@@ -1,5 +1,5 @@
 -- What the lines of a trace are answered in plain mode.
-use Rattle.std.specs.Prelude.{◌≡◌, ◌+◌, ◌*◌, ℕ, List, [], All, length}
+use Rattle.std.specs.Prelude.{◌≡◌, ◌+◌, ◌*◌, ℕ, List, [], length}
 use Rattle.std.specs.List.{range_with_len}
 use Rattle.tdb_base.specs.Agrees.{Agrees}
 use Rattle.tdb_base.specs.History.{Vector, History}

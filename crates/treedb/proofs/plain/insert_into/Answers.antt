@@ -1,4 +1,4 @@
-use Rattle.std.proofs.Common.{◌≡◌, ◌*◌, ◌-◌, ◌+◌, ◌≤◌, ℕ, List, length, sym, ap, ◌∙◌, subst, arith, rules, Some}
+use Rattle.std.proofs.Common.{◌≡◌, ◌*◌, ◌-◌, ◌≤◌, ℕ, List, length, sym, ap, ◌∙◌, subst, arith, rules, Some}
 use Rattle.std.specs.Prelude.{All, IfSome}
 use Rattle.tdb_base.specs.History.{Vector, name_of}
 use Rattle.tdb_base.specs.Renamed.{place_of, renamed}
@@ -9,9 +9,8 @@ use Rattle.pair_rule.specs.declared.view.View.{View}
 use Rattle.root_plain.specs.declared.root.Roots.{Roots}
 use Rattle.work_run.proofs.Few.{few_puts}
 use Rattle.pair_rule.specs.Laws.{IsAbout}
-use Rattle.pair_rule.specs.Rest.{Whole, view}
+use Rattle.pair_rule.specs.Rest.{view}
 use Rattle.root_plain.specs.Plain.{sized, count}
-use Rattle.work_run.specs.Ran.{puts_of_all}
 use Rattle.treedb.specs.Offered.{flag_count}
 use Rattle.treedb.specs.Stored.{IsAboutChoice}
 use Rattle.treedb.specs.ReadBack.{AwaitsLines, IsReadBack, IsReadBy, ReadsInto, new_id, new_ids}

@@ -1,4 +1,4 @@
-use Rattle.std.proofs.Common.{◌≡◌, Option, map, string_bytes, subst, sym}
+use Rattle.std.proofs.Common.{Option, map, string_bytes, subst, sym}
 use Rattle.command_line.specs.declared.outcome.Choice.{Choice}
 use Rattle.treedb.proofs.OfferLemmas.{offers_plain}
 use Rattle.treedb.specs.Note.{status_of}

@@ -1,10 +1,9 @@
-use Rattle.std.proofs.Common.{◌≡◌, ◌-◌, ◌+◌, ℕ, rules, arith, sym, ap, ◌∙◌, Some, take, length}
+use Rattle.std.proofs.Common.{◌≡◌, ◌-◌, ◌+◌, rules, arith, sym, ap, ◌∙◌, Some, take, length}
 use Rattle.std.specs.Prelude.{get_or, map}
-use Rattle.tdb_base.specs.History.{name_of}
 use Rattle.tdb_base.specs.declared.reply.Reply.TheVariants.{New}
 use Rattle.pair_rule.specs.Rest.{view}
 use Rattle.pair_rule.proofs.Histories.{extends_trans}
-use Rattle.treedb.specs.ReadBack.{HasRoom, new_id, new_ids, vectors}
+use Rattle.treedb.specs.ReadBack.{new_id, new_ids, vectors}
 use Rattle.treedb.proofs.ReadBackLemmas.{adds-names, named-later, new_ids-more, room-less, room-next}
 use Rattle.treedb.proofs.distinct.ReadBack.add_all.Goals as goal
 
