@@ -1,5 +1,5 @@
 //! Plain mode: the lines of a trace are inserted into a store whose roots stand in a plain table.
-ghost use Rattle.std.specs.Prelude.{◌≡◌, ◌≤◌, ◌<◌, ◌^◌, All, IfOk, false, length};
+ghost use Rattle.std.specs.Prelude.{◌≡◌, ◌≤◌, ◌<◌, ◌^◌, All, IfOk, OnErr, false, length};
 ghost use Rattle.packed_word.specs.Word.{IsLayout};
 ghost use Rattle.pair_rule.specs.Laws.{IsAbout};
 ghost use Rattle.pair_rule.specs.Rest.{Whole, view};
@@ -7,11 +7,14 @@ ghost use Rattle.pair_rule.specs.View.{newcomer};
 ghost use Rattle.root_plain.specs.Plain.{no_roots, sized, count};
 ghost use Rattle.root_plain.specs.Plays.{Rests};
 ghost use Rattle.tree_store.specs.Ranges.{NodesFit, RootsFit, ProbeFits};
+ghost use Rattle.tree_store.specs.Vectors.{IsVector};
+ghost use Rattle.work_run.specs.Crew.{Unused};
 ghost use Rattle.command_line.specs.Sizes.{AreTableSizes};
 ghost use Rattle.command_line.specs.Valid.{IsValid};
 ghost use Rattle.treedb.specs.Offered.{flag_count};
 ghost use Rattle.treedb.specs.Answered.{IsAnswered, AreSizesOf, CountsOf};
-ghost use Rattle.treedb.specs.Stored.{AreTold};
+ghost use Rattle.treedb.specs.ReadBack.{AwaitsLines, IfPrinted};
+ghost use Rattle.treedb.specs.Stored.{AreTold, IsAboutChoice};
 
 use crate::distinct::{ReadBack, read_back, take_room};
 use command_line::{Choice, Mode, sizes};
@@ -95,6 +98,47 @@ fn stats_of<const W: u32, const F: u32>(
     })
 }
 
+// Inserts the lines into a new store of the choice, whose first pass this is. After `NoMemory` no line was inserted.
+fn insert_lines<R: Threads + Sync, G: Gate, const W: u32, const F: u32>(
+    rt: &R,
+    alloc: Global,
+    store: &PlainStore<W, F>,
+    pass: &mut PlainPass<W, F>,
+    choice: &Choice,
+    trace: &Trace,
+    room: Option<ReadBack>,
+    gate: &G,
+) -> Result<Answered, NoMemory>
+    requires valid { IsValid choice.now }
+    requires about { IsAboutChoice choice.now trace.now store.now.nodes.table.about }
+    requires view { view pass.old ≡ newcomer no_roots store.now.nodes.table.about }
+    requires whole { Whole (view pass.old) }
+    requires rest { Rests store.now.nodes.table.table.shared.table_id store.now.nodes.table.about pass.old }
+    requires lines { length trace.now ≤ 2 ^ 32 }
+    requires fit { All (IsVector store.now.nodes.table.about) trace.now }
+    requires room { IfPrinted choice.now.job room (AwaitsLines store.now.nodes.table.about.slots (length trace.now)) }
+    ensures answered { IfOk result (IsAnswered choice.now trace.now) }
+    ensures refused { OnErr result (Unused pass.old pass.new) }
+{
+    let replies = run_lines(
+        rt,
+        alloc,
+        store,
+        pass,
+        trace,
+        choice.workers,
+        choice.block,
+        gate,
+    )?;
+    let stats = stats_of(store, pass, choice.stats);
+    let vectors = read_back(store, pass, &replies, room);
+    Ok(Answered {
+        replies,
+        stats,
+        vectors,
+    })
+}
+
 // Inserts the lines into a new store of this profile.
 fn insert_into<R: Threads + Sync, G: Gate, const W: u32, const F: u32>(
     rt: &R,
@@ -115,23 +159,7 @@ fn insert_into<R: Threads + Sync, G: Gate, const W: u32, const F: u32>(
     let sizes = store_sizes(choice, slots, trace.len());
     let (store, mut pass) = make_store::<W, F>(alloc, slots, &sizes)?;
     let room = take_room(alloc, choice.job, slots, trace.len())?;
-    let replies = run_lines(
-        rt,
-        alloc,
-        &store,
-        &mut pass,
-        trace,
-        choice.workers,
-        choice.block,
-        gate,
-    )?;
-    let stats = stats_of(&store, &pass, choice.stats);
-    let vectors = read_back(&store, &mut pass, &replies, room);
-    Ok(Answered {
-        replies,
-        stats,
-        vectors,
-    })
+    insert_lines(rt, alloc, &store, &mut pass, choice, trace, room, gate)
 }
 
 /// Inserts the lines of a trace into a new plain store of the choice's profile and sizes: the reply to each line, and

@@ -1,5 +1,5 @@
 //! What the program does.
-ghost use Rattle.std.specs.Prelude.{◌≡◌, ◌≢◌, ◌&&◌, ◌⊎◌, not, true, false, Some, None, IfSome, map, string_bytes};
+ghost use Rattle.std.specs.Prelude.{◌≡◌, ◌≢◌, ◌&&◌, ◌⊎◌, not, true, false, Some, None, IfNone, IfSome, map, string_bytes};
 ghost use Rattle.std.specs.Io.KnownBytes.{Appends, IsAtEnd};
 ghost use Rattle.tdb_base.specs.Causes.{Rose};
 ghost use Rattle.tdb_base.specs.Headline.{EqualLinesEqualIds, DifferentLinesDifferentIds, CountsNames, EachNewOnce, CountsDistinct};
@@ -123,29 +123,31 @@ fn is_of_pairs(choice: &Choice) -> bool
     }
 }
 
-// What words do in either mode.
-fn answer_any<R: Threads + Sync, S: Source, K: Sink, G: Gate>(
-    rt: &R,
+// What words of compact mode do, or `None` for all other words, whose run is one of plain mode.
+fn answer_compact<S: Source, K: Sink, G: Gate>(
     alloc: Global,
     words: &[String],
     source: &mut S,
     sink: &mut K,
     gate: &G,
-) -> Ended
-    ensures { Outcome (offered (map string_bytes words.now)) S.left S.faults K.taken K.faults K.settled source.old source.new sink.old sink.new (status_of result) result }
+) -> Option<Ended>
+    ensures other { IfNone result (offered (map string_bytes words.now) ≡ offered_plain (map string_bytes words.now)) }
+    ensures unread { IfNone result (source.new ≡ source.old) }
+    ensures unwritten { IfNone result (sink.new ≡ sink.old) }
+    ensures ended { IfSome result (λ ended. Outcome (offered (map string_bytes words.now)) S.left S.faults K.taken K.faults K.settled source.old source.new sink.old sink.new (status_of ended) ended) }
 {
     let choice = match choose(alloc, words) {
         Ok(choice) => choice,
-        Err(ChoiceError::Usage) => return Ended::Usage,
-        Err(ChoiceError::NoMemory) => return Ended::NoMemory,
+        Err(ChoiceError::Usage) => return None,
+        Err(ChoiceError::NoMemory) => return Some(Ended::NoMemory),
     };
     if is_plain(&choice) {
-        return answer_plain(rt, alloc, &choice, source, sink, gate);
+        return None;
     }
     if is_of_pairs(&choice) {
-        return answer_pairs(alloc, &choice, source, sink, gate);
+        return Some(answer_pairs(alloc, &choice, source, sink, gate));
     }
-    Ended::Usage
+    Some(Ended::Usage)
 }
 
 // Writes the note of the end: the status.
@@ -269,6 +271,8 @@ pub fn run<R: Threads + Wait + Sync, S: Source, K: Sink, N: Sink, G: Gate>(
     ensures note { NotesEnd (offered (map string_bytes words.now)) (S.left source.old) (K.taken sink.old) (K.taken sink.new) (N.taken notes.old) (N.taken notes.new) (N.faults notes.old) (N.faults notes.new) result }
     ensures no_note { result ≡ Status.Done → notes.new ≡ notes.old }
 {
-    let ended = answer_any(rt, alloc, words, source, sink, gate);
-    tell(ended, notes)
+    match answer_compact(alloc, words, source, sink, gate) {
+        Some(ended) => tell(ended, notes),
+        None => run_plain(rt, alloc, words, source, sink, notes, gate),
+    }
 }
