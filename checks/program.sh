@@ -134,6 +134,14 @@ else
   tell "a sink that takes nothing" no "status $was, wanted 7"
 fi
 
+# the note stands behind all output
+./treedb insert --roots 3 > "$work/got" 2>&1 < <(printf '0,0\n0,1\n0,2\n0,3\n0,4\n0,5\n0,6\n0,7\n0,8\n')
+if [ "$(tail -n 2 "$work/got")" = $'distinct 8\ntreedb: 1 lines full' ] && [ "$(wc -l < "$work/got")" -eq 12 ]; then
+  tell "the note comes last" yes
+else
+  tell "the note comes last" no "$(tail -n 2 "$work/got")"
+fi
+
 # a reader that goes away ends the run
 ./treedb insert < "$work/pairs.csv" 2> "$work/notes" | head -n 1 > "$work/got"
 was=${PIPESTATUS[0]}

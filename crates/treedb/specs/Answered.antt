@@ -23,6 +23,7 @@ pub record AreSizesOf (c : Choice) (slots lines : ℕ) (store : Sizes) : Type 0 
   pub are_sizes : AreTableSizes c slots lines sizes
   pub nodes : store.nodes ≡ sizes.nodes
   pub roots : store.roots ≡ sizes.roots
+  pub region : store.region ≡ sizes.region
   pub probe : store.probe ≡ sizes.probe
 
 -- the counts that a pass tells

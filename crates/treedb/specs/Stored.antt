@@ -27,6 +27,7 @@ pub record IsAboutChoice (c : Choice) (trace : List Vector) (about : About) : Ty
   pub are_sizes : AreTableSizes c about.slots (length trace) sizes
   pub nodes : about.sizes.nodes ≡ sizes.nodes
   pub roots : about.sizes.roots ≡ sizes.roots
+  pub region : about.sizes.region ≡ sizes.region
   pub probe : about.sizes.probe ≡ sizes.probe
 
 -- the counts of a store with these nodes: the nodes' indexes, each once, and the bytes of nodes and names and of the named vectors

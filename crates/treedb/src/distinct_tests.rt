@@ -20,7 +20,7 @@ fn distinct_of<R: Threads + Wait + Sync>(
         all.push(word.to_string(alloc)?)?;
     }
     let mut source = MemSource::new(input, Vec::new(alloc), 7);
-    let mut sink = MemSink::new(alloc, 1 << 12, vec![in alloc; write]?, 5)?;
+    let mut sink = MemSink::new(alloc, 1 << 16, vec![in alloc; write]?, 5)?;
     let mut notes = MemSink::new(alloc, 64, Vec::new(alloc), 64)?;
     let status = run_plain(rt, alloc, &all, &mut source, &mut sink, &mut notes, &NoGate);
     Ok((status, sink))
@@ -47,6 +47,31 @@ fn prints_each_vector_once_in_rising_order(rt: HostRuntime) -> Result<(), Fail> 
         let (status, sink) = distinct_of(&rt, alloc, words, input.as_bytes().to_vec(alloc)?, 0)?;
         assert_eq!(rt; status, Status::Done, "{input}");
         assert_eq!(rt; sink.bytes(), text.as_bytes(), "{input}");
+    }
+    Ok(())
+}
+
+// The pairs of 0 and the numbers below `count`, from the last one down or from the first one up.
+fn pairs_below(alloc: Global, count: u32, rising: bool) -> Result<Vec<u8>, Fail> {
+    let mut text = Vec::new(alloc);
+    for i in 0..count {
+        let number = if rising { i } else { count - 1 - i };
+        let line = format!(in alloc; "0,{number}\n")?;
+        text.extend_from_slice(line.as_bytes())?;
+    }
+    Ok(text)
+}
+
+#[test]
+fn prints_thousands_of_vectors(rt: HostRuntime) -> Result<(), Fail> {
+    let alloc = rt.alloc();
+    let rising = pairs_below(alloc, 6000, true)?;
+    for words in [[].as_slice(), &["--workers", "5", "--block", "3"]] {
+        let mut input = pairs_below(alloc, 6000, false)?;
+        input.extend_from_slice(&rising)?;
+        let (status, sink) = distinct_of(&rt, alloc, words, input, 0)?;
+        assert_eq!(rt; status, Status::Done);
+        assert_eq!(rt; sink.bytes(), rising.as_slice());
     }
     Ok(())
 }

@@ -16,7 +16,7 @@ pub enum Refusal {
 /// How a run ended, with what its note tells.
 #[derive(Clone, Copy, Debug, PartialEq, Eq)]
 pub enum Ended {
-    /// The report was written, and no line was answered full.
+    /// The text was written, and no line was answered full.
     Done,
     /// The words of the command line are faulty.
     Usage,
@@ -24,7 +24,7 @@ pub enum Ended {
     BadTrace(Refusal),
     /// The input is over the limit.
     TooMuch,
-    /// The report was written, and so many lines, at least one, were answered full.
+    /// The text was written, and so many lines, at least one, were answered full.
     Full(u64),
     /// The source failed.
     ReadFault,

@@ -155,6 +155,7 @@ fn tell<N: Sink>(ended: Ended, notes: &mut N) -> Status
     ensures status { result ≡ status_of ended }
     ensures front { TakesFront (N.taken notes.old) (N.taken notes.new) (note_text ended) }
     ensures exact { (Rose (N.faults notes.old) (N.faults notes.new) → ⊥) → Appends (N.taken notes.old) (N.taken notes.new) (note_text ended) }
+    ensures settled { status_of ended ≢ Status.Done → (Rose (N.faults notes.old) (N.faults notes.new) → ⊥) → N.settled notes.new ≡ true }
     ensures done { status_of ended ≡ Status.Done → notes.new ≡ notes.old }
 {
     write_note(&ended, notes);
@@ -211,8 +212,9 @@ pub fn run_plain<R: Threads + Sync, S: Source, K: Sink, N: Sink, G: Gate>(
     ensures printed_vectors_are_those_of_the_lines { is_printed result ≡ true
         → OfPrinted (offered_plain (map string_bytes words.now)) (S.left source.old) (K.taken sink.old) (K.taken sink.new) (λ run text. PrintsTheLines run text) }
 
-    // The note of the end, but none for `Done`.
+    // The note of the end, which is handed on whole, but none for `Done`.
     ensures note { NotesEnd (offered_plain (map string_bytes words.now)) (S.left source.old) (K.taken sink.old) (K.taken sink.new) (N.taken notes.old) (N.taken notes.new) (N.faults notes.old) (N.faults notes.new) result }
+    ensures note_settled { result ≢ Status.Done → (Rose (N.faults notes.old) (N.faults notes.new) → ⊥) → N.settled notes.new ≡ true }
     ensures no_note { result ≡ Status.Done → notes.new ≡ notes.old }
 {
     let ended = answer_words(rt, alloc, words, source, sink, gate);
@@ -267,8 +269,9 @@ pub fn run<R: Threads + Wait + Sync, S: Source, K: Sink, N: Sink, G: Gate>(
     ensures printed_vectors_are_those_of_the_lines { is_printed result ≡ true
         → OfPrinted (offered (map string_bytes words.now)) (S.left source.old) (K.taken sink.old) (K.taken sink.new) (λ run text. PrintsTheLines run text) }
 
-    // The note of the end, but none for `Done`.
+    // The note of the end, which is handed on whole, but none for `Done`.
     ensures note { NotesEnd (offered (map string_bytes words.now)) (S.left source.old) (K.taken sink.old) (K.taken sink.new) (N.taken notes.old) (N.taken notes.new) (N.faults notes.old) (N.faults notes.new) result }
+    ensures note_settled { result ≢ Status.Done → (Rose (N.faults notes.old) (N.faults notes.new) → ⊥) → N.settled notes.new ≡ true }
     ensures no_note { result ≡ Status.Done → notes.new ≡ notes.old }
 {
     match answer_compact(alloc, words, source, sink, gate) {

@@ -37,6 +37,7 @@ insert_lines-requires g c =
       are_sizes = subst (λ (n : ℕ). AreTableSizes choice n (length trace) sizes.sizes) (sym is.2) (subst (λ (n : ℕ). AreTableSizes choice c.slots-slots.result n sizes.sizes) c.len.ensures.count sizes.are_sizes);
       nodes = ap (λ (s : Sizes). s.nodes) is.1 ∙ sizes.nodes;
       roots = ap (λ (s : Sizes). s.roots) is.1 ∙ sizes.roots;
+      region = ap (λ (s : Sizes). s.region) is.1 ∙ sizes.region;
       probe = ap (λ (s : Sizes). s.probe) is.1 ∙ sizes.probe;
     } in
     let room = subst (λ (n : ℕ). IfPrinted choice.job c.in_ok-room.room (AwaitsLines n (length trace))) (sym is.2)
