@@ -1,7 +1,8 @@
 #!/usr/bin/env bash
 # bench/program.sh: the whole program in plain mode beside its unproved twin, with 4 KiB pages, in one run: wall times and peak memory on traces M, R and P,
 # insertion in `bench`, reports compared byte for byte on all traces, and instructions by phase. The programs take turns, and each keeps its best.
-# ROUNDS is how many turns there are. Needs ../shared/yardstick with what its Makefile needs, and valgrind.
+# ROUNDS is how many turns there are; with --more the tries of earlier runs count too, since a machine can be slow for minutes. Needs ../shared/yardstick with
+# what its Makefile needs, and valgrind.
 source "$(dirname "${BASH_SOURCE[0]}")/setup.sh"
 rounds=${ROUNDS:-7}
 traces="S M R D W P Q"
@@ -11,8 +12,8 @@ make -s -C "$yard" OUT="$out" treeyard tracegen bestof rustcsv
 ./treedb bench --lines 1 > /dev/null
 program=$PWD/crates/treedb/out/treedb
 
-log=$(mktemp)
-trap 'rm -f "$log"' EXIT
+log=$out/program.tries
+[ "${1:-}" = --more ] || : > "$log"
 # try NAME TRACE WORKERS PROGRAM WORDS..: one try, as NAME TRACE WORKERS, seconds and peak memory in MB
 try() {
   echo "$1 $2 $3 $("$out/bestof" 1 20 "$out/t/$2" "${@:4}" | cut -d' ' -f1,2)" >> "$log"
@@ -31,7 +32,7 @@ for ((i = 0; i < rounds; i++)); do
   done
 done 2> /dev/null
 
-echo "$(date -u '+%Y-%m-%d %H:%M') UTC, $(nproc) cores, load $(cut -d' ' -f1-3 /proc/loadavg), best of $rounds rounds; seconds, and peak memory in MB"
+echo "$(date -u '+%Y-%m-%d %H:%M') UTC, $(nproc) cores, load $(cut -d' ' -f1-3 /proc/loadavg), best of $(grep -c "^treedb P 4 " "$log") rounds; seconds, and peak memory in MB"
 awk '{ k = $1 " " $2 " " $3; if (!(k in low) || $4 < low[k]) low[k] = $4; if ($5 > most[k]) most[k] = $5 }
   function row(t, w) { printf "| %s | %d | %.3f | %.3f | %.2f | %.0f | %.0f |\n", t, w, low["treedb " t " " w], low["twin " t " " w], low["treedb " t " " w] / low["twin " t " " w], most["treedb " t " " w], most["twin " t " " w] }
   function inserted(p, w) { return low[p " bench-128 " w] - low[p " bench-1 " w] }
