@@ -165,7 +165,7 @@ fn insert_into<R: Threads + Sync, G: Gate, const W: u32, const F: u32>(
 /// Inserts the lines of a trace into a new plain store of the choice's profile and sizes: the reply to each line, and
 /// for `distinct` the vectors that were answered new, each read back by its identifier.
 ///
-/// `NoMemory` comes before the first line is inserted.
+/// `NoMemory` comes before the first line is inserted: that is told where the store is in hand, and no clause here can say it.
 pub fn insert_plain<R: Threads + Sync, G: Gate>(
     rt: &R,
     alloc: Global,
