@@ -14,20 +14,20 @@ program=$PWD/crates/treedb/out/treedb
 
 log=$out/program.tries
 [ "${1:-}" = --more ] || : > "$log"
-# try NAME TRACE WORKERS PROGRAM WORDS..: one try, as NAME TRACE WORKERS, seconds and peak memory in MB
+# try NAME WHAT WORKERS INPUT PROGRAM WORDS..: one try, as NAME WHAT WORKERS, seconds and peak memory in MB
 try() {
-  echo "$1 $2 $3 $("$out/bestof" 1 20 "$out/t/$2" "${@:4}" | cut -d' ' -f1,2)" >> "$log"
+  echo "$1 $2 $3 $("$out/bestof" 1 20 "$4" "${@:5}" | cut -d' ' -f1,2)" >> "$log"
 }
 drawn="--lines 1000000 --slots 16 --seed 1"
 for ((i = 0; i < rounds; i++)); do
   for workers in 1 4; do
     for trace in M R P; do
-      try treedb $trace $workers "$program" insert --workers $workers
-      try twin $trace $workers "$out/treeyard" insert --no-huge --workers $workers
+      try treedb $trace $workers "$out/t/$trace" "$program" insert --workers $workers
+      try twin $trace $workers "$out/t/$trace" "$out/treeyard" insert --no-huge --workers $workers
     done
     for values in 128 1; do
-      try treedb bench-$values $workers "$program" bench $drawn --values $values --workers $workers
-      try twin bench-$values $workers "$out/treeyard" bench --no-huge $drawn --values $values --workers $workers
+      try treedb bench-$values $workers /dev/null "$program" bench $drawn --values $values --workers $workers
+      try twin bench-$values $workers /dev/null "$out/treeyard" bench --no-huge $drawn --values $values --workers $workers
     done
   done
 done 2> /dev/null
