@@ -3,14 +3,13 @@ use Rattle.std.proofs.Common.{◌≡◌, ◌≢◌, ℕ, suc, ◌+◌, ◌^◌, 
 use Rattle.std.proofs.lemmas.Nat.{pow_below}
 use mathlib.Core.Logic.{dite}
 use native.Mathlib.Decide.{ℕ_discrete}
-use Rattle.atomic_table.specs.Seated.{TableId}
 use Rattle.tree_shape.specs.Tree.{Has, IsPart, Stands}
 use Rattle.tree_shape.proofs.Trees.{stands_more}
-use Rattle.tdb_base.specs.History.{History}
 use Rattle.pair_rule.specs.declared.view.View.{View}
 use Rattle.pair_rule.specs.declared.sizes.About.{About}
 use Rattle.pair_rule.specs.declared.pass.PassOf.{PassOf}
 use Rattle.pair_rule.specs.Numbers.{Face}
+use Rattle.pair_rule.specs.Part.{Part, Store}
 use Rattle.pair_rule.specs.View.{Grown, node_word, gained, learned, begun, published}
 use Rattle.pair_rule.specs.Paths.{Buckets, node_buckets, size, bucket, IsPair}
 use Rattle.pair_rule.specs.Rest.{Sound, AtRest, names_of_callers}
@@ -23,11 +22,11 @@ unfolding size
 buckets_small b h = pow_below b.d 26 (omega arith)
 
 -- a pass whose view learned of nodes, and put so many
-pub rests_step : {T : Type 0} (roots : About → History → T → List (ℕ × ℕ)) (house : About → List (ℕ × ℕ) → Type 0) (told : About → View T → Type 0) (table : TableId) (about : About) (p q : PassOf T) (n : ℕ)
-    → AtRest roots house told table about p → q.seat.table_id ≡ p.seat.table_id → q.seat.me.1 ≡ p.seat.me.1 → Grown p.seat.me.0 q.seat.me.0 → q.seat.me.0.olds ≡ p.seat.me.0.olds → Sound roots house told q.seat.me.0
+pub rests_step : {T : Type 0} (part : Part T) (store : Store) (p q : PassOf T) (n : ℕ)
+    → AtRest part store p → q.seat.table_id ≡ p.seat.table_id → q.seat.me.1 ≡ p.seat.me.1 → Grown p.seat.me.0 q.seat.me.0 → q.seat.me.0.olds ≡ p.seat.me.0.olds → Sound part q.seat.me.0
     → length q.seat.me.0.made ≡ length p.seat.me.0.made + n → q.last_tree ≡ p.last_tree → q.next_tree ≡ p.next_tree → q.marks ≡ p.marks → q.has_last ≡ p.has_last → q.nodes_count ≡ p.nodes_count + n → q.names_count ≡ p.names_count
-    → AtRest roots house told table about q
-rests_step {T} roots house told table about p q n r same slots g olds sound made last next marks tree nodes names =
+    → AtRest part store q
+rests_step {T} part store p q n r same slots g olds sound made last next marks tree nodes names =
     let v = p.seat.me.0 in
     let u = q.seat.me.0 in
     let numbers : u.numbers ≡ v.numbers = ap (λ (f : Face). f.numbers) g.face_is in
@@ -39,14 +38,15 @@ rests_step {T} roots house told table about p q n r same slots g olds sound made
         idle = g.busy ∙ r.seat.idle;
         no_olds = olds ∙ r.seat.no_olds;
         about_is = g.about ∙ r.seat.about_is;
+        is_about = r.seat.is_about;
         sound = sound;
       };
       last_length = ap (λ l. length l.items) last ∙ r.last_length;
       next_length = ap (λ l. length l.items) next ∙ r.next_length;
       marks_length = ap (λ l. length l.items) marks ∙ r.marks_length;
-      last = λ has position low high. subst (λ l. Stands about.width about.slots u.known (drop about.slots l.items) position (get_or l.items position 0)) (sym last)
-          (stands_more about.width about.slots v.known u.known (drop about.slots p.last_tree.items) position (get_or p.last_tree.items position 0) g.known (r.last (sym tree ∙ has) position low high));
-      last_slots = λ has slot low. subst (λ l. get_or l.items (about.slots + slot) 0 < 2 ^ about.width) (sym last) (r.last_slots (sym tree ∙ has) slot low);
+      last = λ has position low high. subst (λ l. Stands store.about.width store.about.slots u.known (drop store.about.slots l.items) position (get_or l.items position 0)) (sym last)
+          (stands_more store.about.width store.about.slots v.known u.known (drop store.about.slots p.last_tree.items) position (get_or p.last_tree.items position 0) g.known (r.last (sym tree ∙ has) position low high));
+      last_slots = λ has slot low. subst (λ l. get_or l.items (store.about.slots + slot) 0 < 2 ^ store.about.width) (sym last) (r.last_slots (sym tree ∙ has) slot low);
       nodes_count = nodes ∙ (let a = r.nodes_count in omega (arith, a, made));
       names_count = names ∙ (r.names_count ∙ ((λ i. names_of_callers (sym numbers i) v.seen) ∙ ap (names_of_callers u.numbers) (sym g.seen)));
     }

@@ -1,3 +1,4 @@
+//! Find or put a node; read one back.
 ghost use Rattle.std.specs.Prelude.{◌≡◌, ◌<◌, ◌^◌, ℕ, IfOk, OnErr, option_map};
 ghost use Rattle.tree_shape.specs.Tree.{Has};
 ghost use Rattle.packed_word.specs.Word.{pair_of};
@@ -11,13 +12,24 @@ use crate::steps::look;
 use packed_word::Layout;
 use pair_rule::{NodesFull, PairTable, Pass, RootPart};
 use probe_path::Path;
+use std::marker::Model;
 use tdb_base::{Ledger, Steps};
 
 /// The nodes of a store: pairs of parts below `2^W`, each once, named by its place in the table, its index.
 ///
-/// The field is for the layers of the store alone.
+/// Contracts see it as the store, as they do the table.
 pub struct Nodes<R: RootPart<W, F>, const W: u32, const F: u32> {
-    pub table: PairTable<R, W, F>,
+    table: PairTable<R, W, F>,
+}
+
+impl<R: RootPart<W, F>, const W: u32, const F: u32> Model for Nodes<R, W, F> {
+    ghost use Rattle.pair_rule.specs.Part.{Store, IsTable};
+
+    ghost Value = { Store };
+
+    ghost view = { λ n. n.table };
+
+    ghost invariant = { λ n. IsTable W F R.part n.table };
 }
 
 // The present bit.
@@ -26,14 +38,16 @@ const PRESENT: u64 = 1 << 63;
 impl<R: RootPart<W, F>, const W: u32, const F: u32> Nodes<R, W, F> {
     /// The nodes of this table.
     pub fn over(table: PairTable<R, W, F>) -> Nodes<R, W, F>
-        ensures { result.table ≡ table }
+        ensures { result ≡ table }
     {
+        // What the table is about is told by its accessors.
+        let _ = table.slots();
         Nodes { table }
     }
 
     /// The table, of which passes are split and in which they are joined.
     pub fn table(&self) -> &PairTable<R, W, F>
-        ensures { result.now ≡ self.now.table }
+        ensures { result.now ≡ self.now }
     {
         &self.table
     }
@@ -49,15 +63,15 @@ impl<R: RootPart<W, F>, const W: u32, const F: u32> Nodes<R, W, F> {
         right: u64,
         steps: &mut Steps<L>,
     ) -> Result<u64, NodesFull>
-        requires rest { AtRest R.roots R.house R.told self.now.table.table.shared.table_id self.now.table.about pass.old }
-        requires left { left < 2 ^ W }
-        requires right { right < 2 ^ W }
-        ensures rest { AtRest R.roots R.house R.told self.now.table.table.shared.table_id self.now.table.about pass.new }
+        requires rest { AtRest R.part self.now pass.old }
+        requires left { left < 2 ^ self.now.about.width }
+        requires right { right < 2 ^ self.now.about.width }
+        ensures rest { AtRest R.part self.now pass.new }
         ensures tree { KeepsTree pass.old pass.new }
         ensures tick { L.count steps.new ≡ option_map counted (L.count steps.old) }
-        ensures known { IfOk result (λ index. Has (index, pair_of W left right) (view pass.new).known) }
+        ensures known { IfOk result (λ index. Has (index, pair_of self.now.about.width left right) (view pass.new).known) }
         ensures put { IfOk result (λ index. PutAt index 1 (view pass.old) (view pass.new)) }
-        ensures full { OnErr result (Blocked (node_buckets self.now.table.about) (view pass.new).known (pair_of W left right)) }
+        ensures full { OnErr result (Blocked (node_buckets self.now.about) (view pass.new).known (pair_of self.now.about.width left right)) }
         ensures full_puts_none { OnErr result (Probed 1 (view pass.old) (view pass.new)) }
     {
         steps.tick();
@@ -73,15 +87,16 @@ impl<R: RootPart<W, F>, const W: u32, const F: u32> Nodes<R, W, F> {
 
     /// The pair of an index that the pass knows. It begins no probe, and neither waits nor takes memory.
     pub fn pair_at(&self, pass: &mut Pass<R, W, F>, index: u64) -> (u64, u64)
-        requires rest { AtRest R.roots R.house R.told self.now.table.table.shared.table_id self.now.table.about pass.old }
+        requires rest { AtRest R.part self.now pass.old }
         requires known { (pair : ℕ) × Has (index, pair) (view pass.old).known }
-        ensures rest { AtRest R.roots R.house R.told self.now.table.table.shared.table_id self.now.table.about pass.new }
+        ensures rest { AtRest R.part self.now pass.new }
         ensures tree { KeepsTree pass.old pass.new }
-        ensures pair { Has (index, pair_of W result.0 result.1) (view pass.old).known }
-        ensures parts { (result.0 < 2 ^ W) × (result.1 < 2 ^ W) }
+        ensures pair { Has (index, pair_of self.now.about.width result.0 result.1) (view pass.old).known }
+        ensures parts { (result.0 < 2 ^ self.now.about.width) × (result.1 < 2 ^ self.now.about.width) }
         ensures puts_none { Probed 0 (view pass.old) (view pass.new) }
     {
-        let word = look(&self.table, pass, index);
+        let table = &self.table;
+        let word = look(table, pass, index);
         (Layout::<W, F>::left(word), Layout::<W, F>::right(word))
     }
 }

@@ -20,13 +20,13 @@ fn settle<R: RootPart<W, F>, const W: u32, const F: u32>(
     word: u64,
     found: u64,
 ) -> Option<u64>
-    requires rest { AtRest R.roots R.house R.told table.now.table.shared.table_id table.now.about pass.old }
+    requires rest { AtRest R.part table.now pass.old }
     requires word { IsNodeWord table.now.about word }
     requires inside { at < size (node_buckets table.now.about) }
     requires on_path { (step : ℕ) × (step < reach (node_buckets table.now.about)) × (bucket (node_buckets table.now.about) (pair_of_word word) step ≡ at) × HasPassed (view pass.old) (pair_of_word word) step }
     requires found { IsWord table.now.about found × (found ≢ 0 → Has (at, pair_of_word found) (view pass.old).known) }
     requires probing { (view pass.old).probing ≡ true }
-    ensures rest { AtRest R.roots R.house R.told table.now.table.shared.table_id table.now.about pass.new }
+    ensures rest { AtRest R.part table.now pass.new }
     ensures tree { KeepsTree pass.old pass.new }
     ensures told { MatchOption result ((step : ℕ) → bucket (node_buckets table.now.about) (pair_of_word word) step ≡ at → HasPassed (view pass.old) (pair_of_word word) step
         → Underway (pair_of_word word) (step + 1) 0 (view pass.old) (view pass.new))
@@ -55,13 +55,14 @@ fn look_along<R: RootPart<W, F>, const W: u32, const F: u32>(
     from: u64,
     word: u64,
 ) -> Option<u64>
-    requires rest { AtRest R.roots R.house R.told table.now.table.shared.table_id table.now.about pass.old }
+    requires rest { AtRest R.part table.now pass.old }
     requires word { IsNodeWord table.now.about word }
+    requires width { table.now.about.width ≡ W }
     requires walk { (walk.now.course ≡ course_of table.now.about word) × (walk.now.passed < walk.now.course.lines) }
     requires from { from ≤ 8 }
     requires passed { HasPassed (view pass.old) (pair_of_word word) (8 * walk.now.passed + from) }
     requires probing { (view pass.old).probing ≡ true }
-    ensures rest { AtRest R.roots R.house R.told table.now.table.shared.table_id table.now.about pass.new }
+    ensures rest { AtRest R.part table.now pass.new }
     ensures tree { KeepsTree pass.old pass.new }
     ensures told { MatchOption result (Underway (pair_of_word word) (8 * walk.now.passed + 8) 0 (view pass.old) (view pass.new))
         (λ index. Ended (pair_of_word word) index 0 (view pass.old) (view pass.new)) }
@@ -84,10 +85,11 @@ fn look_first<R: RootPart<W, F>, const W: u32, const F: u32>(
     walk: &Walk<W>,
     word: u64,
 ) -> Option<u64>
-    requires rest { AtRest R.roots R.house R.told table.now.table.shared.table_id table.now.about pass.old }
+    requires rest { AtRest R.part table.now pass.old }
     requires word { IsNodeWord table.now.about word }
+    requires width { table.now.about.width ≡ W }
     requires walk { (walk.now.course ≡ course_of table.now.about word) × (walk.now.passed ≡ 0) × (0 < walk.now.course.lines) }
-    ensures rest { AtRest R.roots R.house R.told table.now.table.shared.table_id table.now.about pass.new }
+    ensures rest { AtRest R.part table.now pass.new }
     ensures tree { KeepsTree pass.old pass.new }
     ensures told { MatchOption result (Underway (pair_of_word word) 1 1 (view pass.old) (view pass.new))
         (λ index. Ended (pair_of_word word) index 1 (view pass.old) (view pass.new)) }
@@ -105,10 +107,11 @@ fn look_along_first<R: RootPart<W, F>, const W: u32, const F: u32>(
     walk: &Walk<W>,
     word: u64,
 ) -> Option<u64>
-    requires rest { AtRest R.roots R.house R.told table.now.table.shared.table_id table.now.about pass.old }
+    requires rest { AtRest R.part table.now pass.old }
     requires word { IsNodeWord table.now.about word }
+    requires width { table.now.about.width ≡ W }
     requires walk { (walk.now.course ≡ course_of table.now.about word) × (walk.now.passed ≡ 0) × (0 < walk.now.course.lines) }
-    ensures rest { AtRest R.roots R.house R.told table.now.table.shared.table_id table.now.about pass.new }
+    ensures rest { AtRest R.part table.now pass.new }
     ensures tree { KeepsTree pass.old pass.new }
     ensures told { MatchOption result (Underway (pair_of_word word) 8 1 (view pass.old) (view pass.new))
         (λ index. Ended (pair_of_word word) index 1 (view pass.old) (view pass.new)) }
@@ -127,10 +130,11 @@ pub(crate) fn probe<R: RootPart<W, F>, const W: u32, const F: u32>(
     path: &Path<W>,
     word: u64,
 ) -> Option<u64>
-    requires rest { AtRest R.roots R.house R.told table.now.table.shared.table_id table.now.about pass.old }
+    requires rest { AtRest R.part table.now pass.old }
     requires word { IsNodeWord table.now.about word }
+    requires width { table.now.about.width ≡ W }
     requires path { path.now ≡ course_of table.now.about word }
-    ensures rest { AtRest R.roots R.house R.told table.now.table.shared.table_id table.now.about pass.new }
+    ensures rest { AtRest R.part table.now pass.new }
     ensures tree { KeepsTree pass.old pass.new }
     ensures told { MatchOption result (Underway (pair_of_word word) (reach (node_buckets table.now.about)) 1 (view pass.old) (view pass.new))
         (λ index. Ended (pair_of_word word) index 1 (view pass.old) (view pass.new)) }

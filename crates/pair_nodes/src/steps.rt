@@ -17,15 +17,15 @@ pub(crate) fn look<R: RootPart<W, F>, const W: u32, const F: u32>(
     pass: &mut Pass<R, W, F>,
     at: u64,
 ) -> u64
-    requires rest { AtRest R.roots R.house R.told table.now.table.shared.table_id table.now.about pass.old }
+    requires rest { AtRest R.part table.now pass.old }
     requires inside { at < size (node_buckets table.now.about) }
-    ensures rest { AtRest R.roots R.house R.told table.now.table.shared.table_id table.now.about pass.new }
+    ensures rest { AtRest R.part table.now pass.new }
     ensures view { view pass.new ≡ learned at result (view pass.old) }
     ensures word { IsWord table.now.about result }
     ensures free { result ≡ 0 → (pair : ℕ) → Has (at, pair) (view pass.old).known → ⊥ }
     ensures tree { pass.new ≡ record pass.old { seat = pass.new.seat } }
 {
-    let shared = &table.table().shared;
+    let shared = table.shared();
     shared.load::<Look<R, W, F>>(&mut pass.seat, at as usize + 1)
 }
 
@@ -36,15 +36,15 @@ pub(crate) fn begin<R: RootPart<W, F>, const W: u32, const F: u32>(
     pass: &mut Pass<R, W, F>,
     at: u64,
 ) -> u64
-    requires rest { AtRest R.roots R.house R.told table.now.table.shared.table_id table.now.about pass.old }
+    requires rest { AtRest R.part table.now pass.old }
     requires inside { at < size (node_buckets table.now.about) }
-    ensures rest { AtRest R.roots R.house R.told table.now.table.shared.table_id table.now.about pass.new }
+    ensures rest { AtRest R.part table.now pass.new }
     ensures view { view pass.new ≡ begun at result (view pass.old) }
     ensures word { IsWord table.now.about result }
     ensures free { result ≡ 0 → (pair : ℕ) → Has (at, pair) (view pass.old).known → ⊥ }
     ensures tree { pass.new ≡ record pass.old { seat = pass.new.seat } }
 {
-    let shared = &table.table().shared;
+    let shared = table.shared();
     shared.load::<Begin<R, W, F>>(&mut pass.seat, at as usize + 1)
 }
 
@@ -56,19 +56,19 @@ pub(crate) fn put<R: RootPart<W, F>, const W: u32, const F: u32>(
     at: u64,
     word: u64,
 ) -> u64
-    requires rest { AtRest R.roots R.house R.told table.now.table.shared.table_id table.now.about pass.old }
+    requires rest { AtRest R.part table.now pass.old }
     requires pair { let pair = pair_of_word word in (word ≡ node_word pair) × IsPair (node_buckets table.now.about) pair }
     requires inside { at < size (node_buckets table.now.about) }
     requires passed { (step : ℕ) × (step < reach (node_buckets table.now.about)) × (bucket (node_buckets table.now.about) (pair_of_word word) step ≡ at) × HasPassed (view pass.old) (pair_of_word word) step }
     requires probing { (view pass.old).probing ≡ true }
-    ensures rest { AtRest R.roots R.house R.told table.now.table.shared.table_id table.now.about pass.new }
+    ensures rest { AtRest R.part table.now pass.new }
     ensures won { result ≡ 0 → view pass.new ≡ published at (pair_of_word word) (view pass.old) }
     ensures lost { result ≢ 0 → view pass.new ≡ learned at result (view pass.old) }
     ensures word { IsWord table.now.about result }
     ensures free { result ≡ 0 → (pair : ℕ) → Has (at, pair) (view pass.old).known → ⊥ }
     ensures tree { KeepsTree pass.old pass.new }
 {
-    let shared = &table.table().shared;
+    let shared = table.shared();
     let found = shared.compare_exchange::<Put<R, W, F>>(&mut pass.seat, at as usize + 1, 0, word);
     if found == 0 {
         pass.nodes_count += 1;

@@ -1,6 +1,7 @@
 //! Answers worked out outside, and many callers at once.
 ghost use Rattle.std.specs.Prelude.{◌≡◌, ◌≤◌, ◌^◌, All, IfOk};
-ghost use Rattle.pair_rule.specs.Laws.{InRange, no_roots, no_house, NobodyCalled};
+ghost use Rattle.pair_rule.specs.Laws.{InRange};
+ghost use Rattle.pair_rule.specs.NoRoots.{no_roots};
 ghost use Rattle.pair_rule.specs.Rest.{AtRest};
 
 use super::Nodes;
@@ -36,9 +37,9 @@ fn put_pairs<L: Ledger, R: RootPart<W, F>, const W: u32, const F: u32>(
     answers: &mut [Option<u64>; 12],
     steps: &mut Steps<L>,
 )
-    requires rest { AtRest R.roots R.house R.told nodes.now.table.table.shared.table_id nodes.now.table.about pass.old }
+    requires rest { AtRest R.part nodes.now pass.old }
     requires wide { 12 ≤ 2 ^ W }
-    ensures { AtRest R.roots R.house R.told nodes.now.table.table.shared.table_id nodes.now.table.about pass.new }
+    ensures { AtRest R.part nodes.now pass.new }
 {
     let count = count.min(12).max(1);
     for turn in 0..count {
@@ -62,8 +63,8 @@ fn put_at_once<H: Threads + Sync>(
     callers: &mut [Caller<()>],
     pairs: u64,
 )
-    requires { All (λ c. AtRest no_roots no_house NobodyCalled nodes.now.table.table.shared.table_id nodes.now.table.about c.pass) callers.old }
-    ensures { All (λ c. AtRest no_roots no_house NobodyCalled nodes.now.table.table.shared.table_id nodes.now.table.about c.pass) callers.new }
+    requires { All (λ c. AtRest no_roots nodes.now c.pass) callers.old }
+    ensures { All (λ c. AtRest no_roots nodes.now c.pass) callers.new }
 {
     let count = callers.len();
     if count > 0 {
@@ -72,8 +73,8 @@ fn put_at_once<H: Threads + Sync>(
             callers,
             count,
             &|_, caller: &mut Caller<()>|
-                requires { AtRest no_roots no_house NobodyCalled nodes.now.table.table.shared.table_id nodes.now.table.about caller.now.pass }
-                ensures { AtRest no_roots no_house NobodyCalled nodes.entry.now.table.table.shared.table_id nodes.entry.now.table.about caller.exit.now.pass }
+                requires { AtRest no_roots nodes.now caller.now.pass }
+                ensures { AtRest no_roots nodes.entry.now caller.exit.now.pass }
             {
                 let mut steps = Steps::new(Silent);
                 put_pairs::<Silent, NoRoot, 16, 8>(
@@ -96,11 +97,11 @@ fn split_callers(
     pass: &mut Pass<NoRoot, 16, 8>,
     count: u64,
 ) -> Result<Vec<Caller<()>>, NoMemory>
-    requires { AtRest no_roots no_house NobodyCalled nodes.now.table.table.shared.table_id nodes.now.table.about pass.old }
-    ensures rest { AtRest no_roots no_house NobodyCalled nodes.now.table.table.shared.table_id nodes.now.table.about pass.new }
-    ensures callers { IfOk result (λ v. All (λ c. AtRest no_roots no_house NobodyCalled nodes.now.table.table.shared.table_id nodes.now.table.about c.pass) v.items) }
+    requires { AtRest no_roots nodes.now pass.old }
+    ensures rest { AtRest no_roots nodes.now pass.new }
+    ensures callers { IfOk result (λ v. All (λ c. AtRest no_roots nodes.now c.pass) v.items) }
 {
-    let table = &nodes.table;
+    let table = nodes.table();
     let mut callers = Vec::new(alloc);
     for number in 0..count {
         let pass = table.split(alloc, pass)?;
@@ -219,8 +220,8 @@ fn join_callers(
     pass: &mut Pass<NoRoot, 16, 8>,
     callers: Vec<Caller<()>>,
 ) -> u64
-    requires rest { AtRest no_roots no_house NobodyCalled nodes.now.table.table.shared.table_id nodes.now.table.about pass.old }
-    requires callers { All (λ c. AtRest no_roots no_house NobodyCalled nodes.now.table.table.shared.table_id nodes.now.table.about c.pass) callers.items }
+    requires rest { AtRest no_roots nodes.now pass.old }
+    requires callers { All (λ c. AtRest no_roots nodes.now c.pass) callers.items }
 {
     for caller in callers {
         let Caller { pass: other, .. } = caller;

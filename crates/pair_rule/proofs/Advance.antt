@@ -9,6 +9,7 @@ use Rattle.tdb_base.specs.History.{Entry, History}
 use Rattle.tdb_base.specs.Legal.{IsLegal}
 use Rattle.pair_rule.specs.declared.view.View.{View}
 use Rattle.pair_rule.specs.declared.sizes.About.{About}
+use Rattle.pair_rule.specs.Part.{Part}
 use Rattle.pair_rule.specs.View.{face, made_of}
 use Rattle.pair_rule.specs.Paths.{node_buckets, size}
 use Rattle.pair_rule.specs.Rule.{IsNode, at, Filled, Made, Named, Fits, Numbers, Callers, Kept}
@@ -18,17 +19,17 @@ use Rattle.pair_rule.proofs.Lists.{has_back, has_either, set_got, each_set, map_
 use Rattle.pair_rule.proofs.Histories.{extends_refl, extends_push, extends_trans, other_calls}
 use Rattle.pair_rule.proofs.Buckets.{filled_same}
 use Rattle.pair_rule.proofs.Whole.{node_one, node_used, nodes_of, node_stands}
-use Rattle.pair_rule.proofs.Sounds.{Tells, Houses, sound_of}
+use Rattle.pair_rule.proofs.Sounds.{SoundOf, Houses, sound_of}
 use Rattle.pair_rule.proofs.Steps.{holder_same}
 
 -- v with all that h knows, this history and this root part
 abbrev pub catch : {T : Type 0} → View T → View T → History → Bool → T → View T
 catch v h seen busy t = record v { busy = busy; seen = seen; known = h.known ++ v.known; olds = []; root = t }
 
-module _ {T : Type 0} (S : Type 0) (about : About) (roots : About → History → T → List (ℕ × ℕ)) (house : About → List (ℕ × ℕ) → Type 0) (told : About → View T → Type 0)
+module _ {T : Type 0} (S : Type 0) (about : About) (part : Part T)
     (root : History → List ℕ → List (View T) → Type 0) where
   abbrev Rule : State S (View T) → Type 0
-  Rule = Kept about (roots about) root
+  Rule = Kept about (part.roots about) root
 
   -- the nodes' words are as they were
   abbrev pub SameNodes : List ℕ → List ℕ → Type 0
@@ -48,7 +49,7 @@ module _ {T : Type 0} (S : Type 0) (about : About) (roots : About → History �
 
   -- a step on a root word that changes nothing of the stepping view but its root part, with the same root pairs
   pub stays : (s : State S (View T)) (r : Rule s) (id : ℕ) (v : View T) (words : List ℕ) (busy : Bool) (t : T)
-      → get_elem? s.views id ≡ some v → SameNodes s.words words → roots about v.seen t ≡ roots about v.seen v.root
+      → get_elem? s.views id ≡ some v → SameNodes s.words words → part.roots about v.seen t ≡ part.roots about v.seen v.root
       → root r.log (drop (suc (size (node_buckets about))) words) (set s.views id (record v { busy = busy; root = t }))
       → Rule record { words = words; homes = s.homes; views = set s.views id (record v { busy = busy; root = t }) }
   stays s r id v words busy t e same pairs rooted =
@@ -62,7 +63,7 @@ module _ {T : Type 0} (S : Type 0) (about : About) (roots : About → History �
         wide = same.0 ∙ r.wide;
         nodes = nodes_kept s r words same;
         made = made_kept s r words id v w same e refl;
-        each = each_set (λ (j : ℕ) (u : View T). Fits about (roots about) r.log (at words) u) s.views id w
+        each = each_set (λ (j : ℕ) (u : View T). Fits about (part.roots about) r.log (at words) u) s.views id w
             (λ j u p. let g = r.each j u p in record { about_is = g.about_is; known = λ i x h. known_kept s words same i x (g.known i x h); made = g.made; made_once = g.made_once; probed = g.probed; seen = g.seen; own = g.own; named = g.named; olds = g.olds; spent = g.spent })
             record {
               about_is = f.about_is;
@@ -83,14 +84,14 @@ module _ {T : Type 0} (S : Type 0) (about : About) (roots : About → History �
 
   -- what two views know together are nodes
   pub united : (s : State S (View T)) (r : Rule s) (id j : ℕ) (v h : View T) → get_elem? s.views id ≡ some v → get_elem? s.views j ≡ some h → AreNodes about (h.known ++ v.known)
-  united s r id j v h e eh = nodes_of S about roots root s r (h.known ++ v.known) (λ i x a. ⊎_elim
-      (λ (b : Has (i, x) h.known). (node_stands S about roots root s r j h eh i x b, ((r.each j h eh).known i x b).0))
-      (λ (b : Has (i, x) v.known). (node_stands S about roots root s r id v e i x b, ((r.each id v e).known i x b).0))
+  united s r id j v h e eh = nodes_of S about part.roots root s r (h.known ++ v.known) (λ i x a. ⊎_elim
+      (λ (b : Has (i, x) h.known). (node_stands S about part.roots root s r j h eh i x b, ((r.each j h eh).known i x b).0))
+      (λ (b : Has (i, x) v.known). (node_stands S about part.roots root s r id v e i x b, ((r.each id v e).known i x b).0))
       (has_either (i, x) h.known v.known a))
 
   module _ (s : State S (View T)) (r : Rule s) (id j : ℕ) (v h : View T) (words : List ℕ) (more : History) (busy : Bool) (t : T)
       (e : get_elem? s.views id ≡ some v) (live : v.live ≡ true) (eh : get_elem? s.views j ≡ some h) (mine : (x : Entry) → Has x more → x.caller ≡ v.number) (same : SameNodes s.words words)
-      (legal : IsLegal about.flags (r.log ++ more)) (named : Named about (h.known ++ v.known) (r.log ++ more) (roots about (r.log ++ more) t))
+      (legal : IsLegal about.flags (r.log ++ more)) (named : Named about (h.known ++ v.known) (r.log ++ more) (part.roots about (r.log ++ more) t))
       (rooted : root (r.log ++ more) (drop (suc (size (node_buckets about))) words) (set s.views id (catch v h (r.log ++ more) busy t))) where
     abbrev w : View T
     w = catch v h (r.log ++ more) busy t
@@ -101,7 +102,7 @@ module _ {T : Type 0} (S : Type 0) (about : About) (roots : About → History �
     apart : (k : ℕ) (u : View T) → k ≢ id → get_elem? s.views k ≡ some u → (c : ℕ) → Has c u.numbers → (x : Entry) → Has x more → x.caller ≢ c
     apart k u n p c has x there z = n (r.numbers.sole v.number k id (face u) (face v) (at_map face s.views k u p) (at_map face s.views id v e) (subst (λ (m : ℕ). Has m u.numbers) (sym z ∙ mine x there) has) number)
 
-    others : (k : ℕ) (u : View T) → k ≢ id → get_elem? s.views k ≡ some u → Fits about (roots about) (r.log ++ more) (at words) u
+    others : (k : ℕ) (u : View T) → k ≢ id → get_elem? s.views k ≡ some u → Fits about (part.roots about) (r.log ++ more) (at words) u
     others k u n p =
         let g = r.each k u p in
         record {
@@ -118,7 +119,7 @@ module _ {T : Type 0} (S : Type 0) (about : About) (roots : About → History �
           spent = g.spent;
         }
 
-    itself : Fits about (roots about) (r.log ++ more) (at words) w
+    itself : Fits about (part.roots about) (r.log ++ more) (at words) w
     itself =
         let f = r.each id v e in
         let fh = r.each j h eh in
@@ -145,7 +146,7 @@ module _ {T : Type 0} (S : Type 0) (about : About) (roots : About → History �
       nodes = nodes_kept s r words same;
       made = made_kept s r words id v w same e refl;
       each = λ k u p. ⊎_elim
-          (λ (a : (k ≡ id) × (w ≡ u)). subst (Fits about (roots about) (r.log ++ more) (at words)) a.1 itself)
+          (λ (a : (k ≡ id) × (w ≡ u)). subst (Fits about (part.roots about) (r.log ++ more) (at words)) a.1 itself)
           (λ (a : (k ≢ id) × (get_elem? s.views k ≡ some u)). others k u a.0 a.1)
           (at_set s.views id k w u p);
       numbers = subst Numbers (sym (map_same face s.views id v w e refl)) r.numbers;
@@ -155,9 +156,9 @@ module _ {T : Type 0} (S : Type 0) (about : About) (roots : About → History �
     }
 
     -- a step on a root word after which the view has caught up with the view h and made these calls
-    pub catches : Tells S about roots house told root → Houses S about roots house told root → IsPart (roots about v.seen v.root) (roots about (r.log ++ more) t)
-        → Rule record { words = words; homes = s.homes; views = set s.views id w } × ((c : Caught roots house told more v w) × (c.log ≡ r.log))
-    catches tells houses part =
+    pub catches : SoundOf S about part root → Houses S about part root → IsPart (part.roots about v.seen v.root) (part.roots about (r.log ++ more) t)
+        → Rule record { words = words; homes = s.homes; views = set s.views id w } × ((c : Caught part more v w) × (c.log ≡ r.log))
+    catches sounds_of houses roots_part =
         let f = r.each id v e in (
           advances,
           (
@@ -172,8 +173,8 @@ module _ {T : Type 0} (S : Type 0) (about : About) (roots : About → History �
               probing = refl;
               probes = refl;
               known = λ i x has. has_back (i, x) h.known v.known has;
-              roots_stay = subst (λ (a : About). IsPart (roots a v.seen v.root) (roots a (r.log ++ more) t)) (sym (f.about_is live)) part;
-              sound = sound_of S about roots house told root tells houses _ advances id w (set_got s.views id v w e) live;
+              roots_stay = subst (λ (a : About). IsPart (part.roots a v.seen v.root) (part.roots a (r.log ++ more) t)) (sym (f.about_is live)) roots_part;
+              sound = sound_of S about part root sounds_of houses _ advances id w (set_got s.views id v w e) live;
             },
             refl,
           ),

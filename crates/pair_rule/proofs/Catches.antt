@@ -11,6 +11,7 @@ use Rattle.tdb_base.specs.Legal.{Extends}
 use Rattle.pair_rule.specs.declared.view.View.{View}
 use Rattle.pair_rule.specs.declared.sizes.About.{About}
 use Rattle.pair_rule.specs.declared.pass.PassOf.{PassOf}
+use Rattle.pair_rule.specs.Part.{Part, Store}
 use Rattle.pair_rule.specs.Rest.{SeatRests, AtRest, names_of_callers, view}
 use Rattle.pair_rule.specs.Plays.{Caught}
 use Rattle.pair_rule.proofs.Histories.{extends_trans}
@@ -37,9 +38,9 @@ names_by_seen ns e seen = rw seen refl
 pub names_by_fresh : (ns : List ℕ) (e : Entry) → e.act ≡ Put true → Has e.caller ns → names_of_callers ns (e ∷ []) ≡ 1
 names_by_fresh ns e fresh has = rw (fresh, any_of e.caller ns has) refl
 
-module _ {T : Type 0} (roots : About → History → T → List (ℕ × ℕ)) (house : About → List (ℕ × ℕ) → Type 0) (told : About → View T → Type 0) where
+module _ {T : Type 0} (part : Part T) where
   -- a view that caught up, and then again
-  pub caught_then : (more : History) (v u w : View T) → Caught roots house told [] v u → Caught roots house told more u w → Caught roots house told more v w
+  pub caught_then : (more : History) (v u w : View T) → Caught part [] v u → Caught part more u w → Caught part more v w
   caught_then more v u w a b =
       let whole : u.seen ≡ a.log = a.seen ∙ append-nil a.log in
       let front : Extends a.log b.log = subst (λ (h : History). Extends h b.log) whole b.begins in
@@ -58,9 +59,9 @@ module _ {T : Type 0} (roots : About → History → T → List (ℕ × ℕ)) (h
         sound = b.sound;
       }
 
-  module _ (table : TableId) (about : About) where
+  module _ (store : Store) where
     -- the names that the pass gave, after it caught up and made these calls
-    pub names_caught : (p q : PassOf T) (more : History) → AtRest roots house told table about p → Caught roots house told more (view p) (view q)
+    pub names_caught : (p q : PassOf T) (more : History) → AtRest part store p → Caught part more (view p) (view q)
         → names_of_callers (view q).numbers (view q).seen ≡ p.names_count + names_of_callers (view p).numbers more
     names_caught p q more r k =
         let ns = (view p).numbers in
@@ -71,17 +72,17 @@ module _ {T : Type 0} (roots : About → History → T → List (ℕ × ℕ)) (h
         ap (λ (l : List ℕ). names_of_callers l (view q).seen) numbers ∙ (ap (λ (h : History). names_of_callers ns h) k.seen ∙ omega (arith, both, before, count))
 
     -- a pass that caught up, with its tree and its buffers as they were
-    pub rests_caught : (p q : PassOf T) (more : History) → AtRest roots house told table about p → SeatRests roots house told table about q.seat → Caught roots house told more (view p) (view q)
+    pub rests_caught : (p q : PassOf T) (more : History) → AtRest part store p → SeatRests part store q.seat → Caught part more (view p) (view q)
         → q.last_tree ≡ p.last_tree → q.next_tree ≡ p.next_tree → q.marks ≡ p.marks → q.has_last ≡ p.has_last → q.nodes_count ≡ p.nodes_count
-        → q.names_count ≡ p.names_count + names_of_callers (view p).numbers more → AtRest roots house told table about q
+        → q.names_count ≡ p.names_count + names_of_callers (view p).numbers more → AtRest part store q
     rests_caught p q more r seat k last next marks tree nodes names = record {
       seat = seat;
       last_length = ap (λ l. length l.items) last ∙ r.last_length;
       next_length = ap (λ l. length l.items) next ∙ r.next_length;
       marks_length = ap (λ l. length l.items) marks ∙ r.marks_length;
-      last = λ has position low high. subst (λ l. Stands about.width about.slots (view q).known (drop about.slots l.items) position (get_or l.items position 0)) (sym last)
-          (stands_more about.width about.slots (view p).known (view q).known (drop about.slots p.last_tree.items) position (get_or p.last_tree.items position 0) k.known (r.last (sym tree ∙ has) position low high));
-      last_slots = λ has slot low. subst (λ l. get_or l.items (about.slots + slot) 0 < 2 ^ about.width) (sym last) (r.last_slots (sym tree ∙ has) slot low);
+      last = λ has position low high. subst (λ l. Stands store.about.width store.about.slots (view q).known (drop store.about.slots l.items) position (get_or l.items position 0)) (sym last)
+          (stands_more store.about.width store.about.slots (view p).known (view q).known (drop store.about.slots p.last_tree.items) position (get_or p.last_tree.items position 0) k.known (r.last (sym tree ∙ has) position low high));
+      last_slots = λ has slot low. subst (λ l. get_or l.items (store.about.slots + slot) 0 < 2 ^ store.about.width) (sym last) (r.last_slots (sym tree ∙ has) slot low);
       nodes_count = nodes ∙ (r.nodes_count ∙ ap length (sym k.made));
       names_count = names ∙ sym (names_caught p q more r k);
     }

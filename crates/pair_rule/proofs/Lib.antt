@@ -12,3 +12,4 @@ pub mod Rests
 pub mod Advance
 pub mod Names
 pub mod Catches
+pub mod Widths

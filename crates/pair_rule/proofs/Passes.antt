@@ -18,7 +18,7 @@ use Rattle.pair_rule.specs.declared.view.View.{View}
 use Rattle.pair_rule.specs.declared.view.Old.{Old}
 use Rattle.pair_rule.specs.declared.sizes.About.{About}
 use Rattle.pair_rule.specs.Numbers.{child, Face, parent_face, child_face, joint_face, no_face}
-use Rattle.pair_rule.specs.View.{longer, face, made_of, newcomer, left, right, both, nobody, old_of}
+use Rattle.pair_rule.specs.View.{longer, face, made_of, newcomer, parent_view, child_view, joining_view, nobody, old_of}
 use Rattle.pair_rule.specs.Paths.{node_buckets, size}
 use Rattle.pair_rule.specs.Rule.{at, Made, Named, Fits, Numbers, Callers, Holder, Kept}
 use Rattle.pair_rule.proofs.Lists.{has_front, has_back, has_either, set_got, get_one, each_set, each_snoc, map_same, no_repeats_both, not_there}
@@ -33,7 +33,7 @@ no_names about known roots none = record {
   only = λ id pair h. absurd (subst (Has (id, pair)) none h);
 }
 
--- the names of the longer of two fronts of a legal history, by the roots and the nodes of both
+-- the names of the longer of two fronts of a legal history, by the roots and the nodes of joining_view
 named_both : (about : About) (k l roots_k roots_l roots : List (ℕ × ℕ)) (g h log : History) → IsLegal about.flags log → Longer g h log → Named about k g roots_k → Named about l h roots_l
     → IsPart roots_k roots → IsPart roots_l roots → ((id pair : ℕ) → Has (id, pair) roots → Has (id, pair) roots_k ⊎ Has (id, pair) roots_l) → Named about (k ++ l) (longer g h) roots
 named_both about k l roots_k roots_l roots g h log legal long n m part part' either = record {
@@ -76,28 +76,28 @@ module _ {T : Type 0} (S : Type 0) (about : About) (roots : About → History �
   abbrev Rule : State S (View T) → Type 0
   Rule = Kept about (roots about) root
 
-  pub splits : (cut : T → T) → ((h : History) (t : T) → roots about h (cut t) ≡ roots about h t)
-      → ((log : History) (ws : List ℕ) (views : List (View T)) (id : ℕ) (v : View T) → root log ws views → get_elem? views id ≡ some v → root log ws (set views id (left v) ++ right cut v ∷ []))
-      → (id : ℕ) (v : View T) → v.live ≡ true → Splits Rule id v (left v) (right cut v)
-  splits cut roots_cut forks id v live s r e =
+  pub splits : (split : T → T) → ((h : History) (t : T) → roots about h (split t) ≡ roots about h t)
+      → ((log : History) (ws : List ℕ) (views : List (View T)) (id : ℕ) (v : View T) → root log ws views → get_elem? views id ≡ some v → root log ws (set views id (parent_view v) ++ child_view split v ∷ []))
+      → (id : ℕ) (v : View T) → v.live ≡ true → Splits Rule id v (parent_view v) (child_view split v)
+  splits split roots_split keeps_split id v live s r e =
       let f = r.each id v e in
       let ef = at_map face s.views id v e in
-      let faces : map face (set s.views id (left v) ++ right cut v ∷ []) ≡ set (map face s.views) id (parent_face (face v)) ++ child_face (face v) ∷ [] =
-      map-append face (set s.views id (left v)) (right cut v ∷ []) ∙ ap (λ (l : List Face). l ++ child_face (face v) ∷ []) (map-set face s.views id (left v)) in
-      let mades : map made_of (set s.views id (left v) ++ right cut v ∷ []) ≡ map made_of s.views ++ [] ∷ [] =
-      map-append made_of (set s.views id (left v)) (right cut v ∷ []) ∙ ap (λ (l : List (List ℕ)). l ++ [] ∷ []) (map_same made_of s.views id v (left v) e refl) in
+      let faces : map face (set s.views id (parent_view v) ++ child_view split v ∷ []) ≡ set (map face s.views) id (parent_face (face v)) ++ child_face (face v) ∷ [] =
+      map-append face (set s.views id (parent_view v)) (child_view split v ∷ []) ∙ ap (λ (l : List Face). l ++ child_face (face v) ∷ []) (map-set face s.views id (parent_view v)) in
+      let mades : map made_of (set s.views id (parent_view v) ++ child_view split v ∷ []) ≡ map made_of s.views ++ [] ∷ [] =
+      map-append made_of (set s.views id (parent_view v)) (child_view split v ∷ []) ∙ ap (λ (l : List (List ℕ)). l ++ [] ∷ []) (map_same made_of s.views id v (parent_view v) e refl) in
       let unborn : (c : ℕ) → c ≡ child v.number v.splits → calls r.log c ≡ [] =
       λ c is. r.callers c (λ j g eg has. r.numbers.unborn v.splits id j (face v) g ef eg live (omega arith) (inl (subst (λ (n : ℕ). Has n g.numbers) is has))) in
       record {
         log = r.log;
         legal = r.legal;
-        holder = holder_left r.log s.views id v (left v) (right cut v) r.holder e refl;
+        holder = holder_left r.log s.views id v (parent_view v) (child_view split v) r.holder e refl;
         least_nodes = r.least_nodes;
         wide = r.wide;
         nodes = r.nodes;
         made = subst (Made (size (node_buckets about)) (at s.words)) (sym mades) (made_snoc (size (node_buckets about)) (at s.words) (map made_of s.views) r.made);
-        each = each_snoc (λ (u : View T). Fits about (roots about) r.log (at s.words) u) (set s.views id (left v)) (right cut v)
-            (each_set (λ (j : ℕ) (u : View T). Fits about (roots about) r.log (at s.words) u) s.views id (left v) r.each
+        each = each_snoc (λ (u : View T). Fits about (roots about) r.log (at s.words) u) (set s.views id (parent_view v)) (child_view split v)
+            (each_set (λ (j : ℕ) (u : View T). Fits about (roots about) r.log (at s.words) u) s.views id (parent_view v) r.each
             record { about_is = f.about_is; known = f.known; made = f.made; made_once = f.made_once; probed = f.probed; seen = f.seen; own = f.own; named = f.named; olds = f.olds; spent = λ dead. absurd (cc (live, dead)) })
             record {
               about_is = λ _. f.about_is live;
@@ -107,28 +107,28 @@ module _ {T : Type 0} (S : Type 0) (about : About) (roots : About → History �
               probed = omega arith;
               seen = f.seen;
               own = λ c h. ⊎_elim (λ (is : c ≡ child v.number v.splits). let no_calls = unborn c is in calls_none v.seen r.log c f.seen no_calls ∙ sym no_calls) (λ (no : ⊥). absurd no) h;
-              named = subst (λ (l : List (ℕ × ℕ)). Named about v.known v.seen l) (sym (roots_cut v.seen v.root)) f.named;
+              named = subst (λ (l : List (ℕ × ℕ)). Named about v.known v.seen l) (sym (roots_split v.seen v.root)) f.named;
               olds = λ o h. absurd h;
               spent = λ dead. absurd (true≢false dead);
             };
         numbers = subst Numbers (sym faces) (numbers_split (map face s.views) r.numbers id (face v) ef live);
         callers = subst (Callers r.log) (sym faces) (callers_split (map face s.views) r.numbers id (face v) ef live r.log r.callers);
-        rooted = forks r.log _ s.views id v r.rooted e;
+        rooted = keeps_split r.log _ s.views id v r.rooted e;
       }
 
   -- what the root pairs of two views are as those of one
-  abbrev pub Glues : (T → T → T) → Type 0
-  Glues glue = (g h : History) (t u : T) → Extends g (longer g h) → Extends h (longer g h) → IsPart (roots about g t) (roots about (longer g h) (glue t u)) × IsPart (roots about h u) (roots about (longer g h) (glue t u))
+  abbrev pub JoinsRoots : (T → T → T) → Type 0
+  JoinsRoots join = (g h : History) (t u : T) → Extends g (longer g h) → Extends h (longer g h) → IsPart (roots about g t) (roots about (longer g h) (join t u)) × IsPart (roots about h u) (roots about (longer g h) (join t u))
 
-  abbrev pub GluesOnly : (T → T → T) → Type 0
-  GluesOnly glue = (g h : History) (t u : T) (id pair : ℕ) → Has (id, pair) (roots about (longer g h) (glue t u)) → Has (id, pair) (roots about g t) ⊎ Has (id, pair) (roots about h u)
+  abbrev pub JoinsOnly : (T → T → T) → Type 0
+  JoinsOnly join = (g h : History) (t u : T) (id pair : ℕ) → Has (id, pair) (roots about (longer g h) (join t u)) → Has (id, pair) (roots about g t) ⊎ Has (id, pair) (roots about h u)
 
-  pub joins : (glue : T → T → T) (spent : T) → Glues glue → GluesOnly glue → roots about [] spent ≡ []
+  pub joins : (join : T → T → T) (spent : T) → JoinsRoots join → JoinsOnly join → roots about [] spent ≡ []
       → ((log : History) (ws : List ℕ) (views : List (View T)) (nodes : ℕ → ℕ) (id other : ℕ) (v w : View T) → root log ws views → get_elem? views id ≡ some v → get_elem? views other ≡ some w → ¬ (other ≡ id)
-      → v.busy ≡ false → w.busy ≡ false → Fits about (roots about) log nodes v → Fits about (roots about) log nodes w → root log ws (set (set views id (both glue v w)) other (nobody spent)))
-      → (id other : ℕ) (v w : View T) → v.live ≡ true → v.busy ≡ false → w.busy ≡ false → Joins Rule id v other w (both glue v w) (nobody spent)
-  joins glue spent glues only none merges id other v w live idle idle' s r e apart e' =
-      let u = both glue v w in
+      → v.busy ≡ false → w.busy ≡ false → Fits about (roots about) log nodes v → Fits about (roots about) log nodes w → root log ws (set (set views id (joining_view join v w)) other (nobody spent)))
+      → (id other : ℕ) (v w : View T) → v.live ≡ true → v.busy ≡ false → w.busy ≡ false → Joins Rule id v other w (joining_view join v w) (nobody spent)
+  joins join spent joins_roots only none keeps_join id other v w live idle idle' s r e apart e' =
+      let u = joining_view join v w in
       let e2 : get_elem? s.views other ≡ some w = sym (set_else s.views id other u apart) ∙ e' in
       let f = r.each id v e in
       let g = r.each other w e2 in
@@ -139,7 +139,7 @@ module _ {T : Type 0} (S : Type 0) (about : About) (roots : About → History �
       let mades : map made_of (set (set s.views id u) other (nobody spent)) ≡ set (set (map made_of s.views) id (v.made ++ w.made)) other [] =
       map-set made_of (set s.views id u) other (nobody spent) ∙ ap (λ (l : List (List ℕ)). set l other []) (map-set made_of s.views id u) in
       let lb = longer_of v.seen w.seen r.log f.seen g.seen in
-      let parts = glues v.seen w.seen v.root w.root lb.first lb.second in
+      let parts = joins_roots v.seen w.seen v.root w.root lb.first lb.second in
       record {
         log = r.log;
         legal = r.legal;
@@ -164,7 +164,7 @@ module _ {T : Type 0} (S : Type 0) (about : About) (roots : About → History �
                   (λ (a : Has c v.numbers). calls_between v.seen (longer v.seen w.seen) r.log c lb.first lb.front (f.own c a) ∙ f.own c a)
                   (λ (a : Has c w.numbers). calls_between w.seen (longer v.seen w.seen) r.log c lb.second lb.front (g.own c a) ∙ g.own c a)
                   (has_either c v.numbers w.numbers h);
-              named = named_both about v.known w.known (roots about v.seen v.root) (roots about w.seen w.root) (roots about (longer v.seen w.seen) (glue v.root w.root)) v.seen w.seen r.log r.legal lb f.named g.named
+              named = named_both about v.known w.known (roots about v.seen v.root) (roots about w.seen w.root) (roots about (longer v.seen w.seen) (join v.root w.root)) v.seen w.seen r.log r.legal lb f.named g.named
                   parts.0 parts.1 (only v.seen w.seen v.root w.root);
               olds = λ o h. ⊎_elim
                   (λ (is : o ≡ old_of v). subst (λ (x : Old). Extends x.seen r.log × ((c : ℕ) → Has c x.numbers → Has c (v.numbers ++ w.numbers) × (calls x.seen c ≡ calls r.log c)) × (length x.seen ≤ length (longer v.seen w.seen))) (sym is)
@@ -190,7 +190,7 @@ module _ {T : Type 0} (S : Type 0) (about : About) (roots : About → History �
             };
         numbers = subst Numbers (sym faces) (numbers_join (map face s.views) r.numbers id other (face v) (face w) ef eg apart);
         callers = subst (Callers r.log) (sym faces) (callers_join (map face s.views) r.numbers id other (face v) (face w) ef eg apart r.log r.callers);
-        rooted = merges r.log _ s.views (at s.words) id other v w r.rooted e e2 apart idle idle' f g;
+        rooted = keeps_join r.log _ s.views (at s.words) id other v w r.rooted e e2 apart idle idle' f g;
       }
 
 zero_at : (n k : ℕ) → ◌≡◌ {A = ℕ} (get_or (replicate n 0) k 0) 0

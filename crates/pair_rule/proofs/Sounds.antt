@@ -8,6 +8,7 @@ use Rattle.tdb_base.specs.History.{History}
 use Rattle.tdb_base.specs.Legal.{IsLegal}
 use Rattle.pair_rule.specs.declared.view.View.{View}
 use Rattle.pair_rule.specs.declared.sizes.About.{About}
+use Rattle.pair_rule.specs.Part.{Part}
 use Rattle.pair_rule.specs.View.{face}
 use Rattle.pair_rule.specs.Rule.{at, Fits, Kept}
 use Rattle.pair_rule.specs.Rest.{Whole, HasAll, Sound}
@@ -16,43 +17,43 @@ use Rattle.pair_rule.proofs.Census.{no_descendants}
 use Rattle.pair_rule.proofs.Whole.{view_nodes, whole_callers, whole_made, whole_seen, whole_paths, node_used}
 use Rattle.pair_rule.specs.Rule.{IsNode}
 
-module _ {T : Type 0} (S : Type 0) (about : About) (roots : About → History → T → List (ℕ × ℕ)) (house : About → List (ℕ × ℕ) → Type 0) (told : About → View T → Type 0)
+module _ {T : Type 0} (S : Type 0) (about : About) (part : Part T)
     (root : History → List ℕ → List (View T) → Type 0) where
   -- the rule's root part tells of a view,
-  abbrev pub Tells : Type 0
-  Tells = (log : History) (ws : List ℕ) (nodes : ℕ → ℕ) (views : List (View T)) (id : ℕ) (v : View T)
-      → root log ws views → IsLegal about.flags log → get_elem? views id ≡ some v → Fits about (roots about) log nodes v → v.live ≡ true → told about v
+  abbrev pub SoundOf : Type 0
+  SoundOf = (log : History) (ws : List ℕ) (nodes : ℕ → ℕ) (views : List (View T)) (id : ℕ) (v : View T)
+      → root log ws views → IsLegal about.flags log → get_elem? views id ≡ some v → Fits about (part.roots about) log nodes v → v.live ≡ true → part.sound about v
 
   -- and of the roots that a view knows that has seen all
   abbrev pub Houses : Type 0
   Houses = (log : History) (ws : List ℕ) (nodes : ℕ → ℕ) (views : List (View T)) (id : ℕ) (v : View T)
-      → root log ws views → IsLegal about.flags log → get_elem? views id ≡ some v → Fits about (roots about) log nodes v → v.live ≡ true → v.seen ≡ log → house about (roots about v.seen v.root)
+      → root log ws views → IsLegal about.flags log → get_elem? views id ≡ some v → Fits about (part.roots about) log nodes v → v.live ≡ true → v.seen ≡ log → part.house about (part.roots about v.seen v.root)
 
-  module _ (tells : Tells) (houses : Houses) (s : State S (View T)) (r : Kept about (roots about) root s) (id : ℕ) (v : View T) (e : get_elem? s.views id ≡ some v) (live : v.live ≡ true) where
-    has_all : Whole v → HasAll about (roots about) (house about) v
+  module _ (sounds : SoundOf) (houses : Houses) (s : State S (View T)) (r : Kept about (part.roots about) root s) (id : ℕ) (v : View T) (e : get_elem? s.views id ≡ some v) (live : v.live ≡ true) where
+    has_all : Whole v → HasAll part about v
     has_all whole =
         let f = r.each id v e in
         record {
-          callers = λ c never. calls_none v.seen r.log c f.seen (whole_callers S about roots root s r id v e whole c never);
-          made = λ i pair h. let k = f.known i pair h in whole_made S about roots root s r id v e whole i k.0 (λ z. node_used pair (subst (λ (n : ℕ). IsNode n pair) z k.1));
+          callers = λ c never. calls_none v.seen r.log c f.seen (whole_callers S about part.roots root s r id v e whole c never);
+          made = λ i pair h. let k = f.known i pair h in whole_made S about part.roots root s r id v e whole i k.0 (λ z. node_used pair (subst (λ (n : ℕ). IsNode n pair) z k.1));
           housed = record {
-            are_nodes = view_nodes S about roots root s r id v e;
-            fills_paths = whole_paths S about roots root s r id v e whole;
+            are_nodes = view_nodes S about part.roots root s r id v e;
+            fills_paths = whole_paths S about part.roots root s r id v e whole;
             legal = legal_front about.flags v.seen r.log f.seen r.legal;
             named = f.named;
-            house_is = houses r.log _ (at s.words) s.views id v r.rooted r.legal e f live (whole_seen S about roots root s r id v e whole);
+            house_is = houses r.log _ (at s.words) s.views id v r.rooted r.legal e f live (whole_seen S about part.roots root s r id v e whole);
           };
         }
 
     -- of a view with what the table is about in it
-    sound_here : Sound roots house told (record v { about = about })
+    sound_here : Sound part (record v { about = about })
     sound_here =
         let f = r.each id v e in
         let is = f.about_is live in
         let faces = at_map face s.views id v e in
         record {
           legal = legal_front about.flags v.seen r.log f.seen r.legal;
-          nodes = view_nodes S about roots root s r id v e;
+          nodes = view_nodes S about part.roots root s r id v e;
           named = f.named;
           made = f.made;
           made_once = f.made_once;
@@ -67,10 +68,10 @@ module _ {T : Type 0} (S : Type 0) (about : About) (roots : About → History �
               );
           olds = λ o h. let p = f.olds o h in let b = extends_shorter o.seen v.seen r.log p.0 f.seen p.2 in (b, λ c k. calls_between o.seen v.seen r.log c b f.seen (p.1 c k).1);
           whole = λ w. let a = has_all (record { first = w.first; all = w.all }) in record { callers = a.callers; made = a.made; housed = a.housed };
-          root_told = subst (λ (u : View T). told about u) (λ i. record v { about = is i }) (tells r.log _ (at s.words) s.views id v r.rooted r.legal e f live);
+          root_sound = subst (λ (u : View T). part.sound about u) (λ i. record v { about = is i }) (sounds r.log _ (at s.words) s.views id v r.rooted r.legal e f live);
         }
 
-    pub sound_of : Sound roots house told v
+    pub sound_of : Sound part v
     sound_of =
         let back : ◌≡◌ {A = View T} (record v { about = about }) v = λ i. record v { about = sym ((r.each id v e).about_is live) i } in
-        subst (Sound roots house told) back sound_here
+        subst (Sound part) back sound_here

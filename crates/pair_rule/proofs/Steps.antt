@@ -11,16 +11,17 @@ use Rattle.tree_shape.proofs.Trees.{stands_more}
 use Rattle.tdb_base.specs.History.{History}
 use Rattle.pair_rule.specs.declared.view.View.{View}
 use Rattle.pair_rule.specs.declared.sizes.About.{About}
+use Rattle.pair_rule.specs.Part.{Part}
 use Rattle.pair_rule.specs.View.{face, made_of, Grown, node_word, gained, learned, published}
 use Rattle.pair_rule.specs.Paths.{node_buckets, size, bucket, reach, IsPair, Passed, Listed}
 use Rattle.pair_rule.specs.Rule.{IsNode, at, Stands, Made, Named, open_probes, Fits, Numbers, Callers, Holder, Kept}
 use Rattle.pair_rule.specs.Rest.{Sound}
-use Rattle.pair_rule.specs.Plays.{IsWord, Found, look_tells, begin_tells, put_tells, meet_tells}
+use Rattle.pair_rule.specs.Plays.{IsWord, Found, look_tells, begin_tells, put_tells, after_join_tells}
 use Rattle.pair_rule.proofs.Lists.{set_got, get_one, each_set, map_same, at_unmap}
 use Rattle.pair_rule.proofs.Makers.{made_more}
 use Rattle.pair_rule.proofs.Buckets.{filled_put}
 use Rattle.pair_rule.proofs.Whole.{node_one, node_used}
-use Rattle.pair_rule.proofs.Sounds.{Tells, Houses, sound_of}
+use Rattle.pair_rule.proofs.Sounds.{SoundOf, Houses, sound_of}
 
 -- with more nodes known, the names' root pairs stand as before
 pub named_more : (about : About) (known more : List (ℕ × ℕ)) (seen : History) (roots : List (ℕ × ℕ)) → IsPart known more → Named about known seen roots → Named about more seen roots
@@ -42,16 +43,16 @@ holder_same {T} log views id v w h e same = mathlib.Core.Logic.dite (native.Math
     (λ z. (id, w, set_got views id v w e, same ∙ (ap (λ (u : View T). u.seen) (get_one views id v h.1 e (subst (λ (n : ℕ). get_elem? views n ≡ some h.1) z h.2)) ∙ h.3)))
     (λ n. (h.0, h.1, set_else views id h.0 w n ∙ h.2, h.3))
 
-module _ {T : Type 0} (S : Type 0) (about : About) (roots : About → History → T → List (ℕ × ℕ)) (house : About → List (ℕ × ℕ) → Type 0) (told : About → View T → Type 0)
+module _ {T : Type 0} (S : Type 0) (about : About) (part : Part T)
     (root : History → List ℕ → List (View T) → Type 0) where
   abbrev Rule : State S (View T) → Type 0
-  Rule = Kept about (roots about) root
+  Rule = Kept about (part.roots about) root
 
   abbrev pub Grows : Type 0
   Grows = (log : History) (ws : List ℕ) (views : List (View T)) (id : ℕ) (v w : View T) → root log ws views → get_elem? views id ≡ some v → Grown v w → root log ws (set views id w)
 
   -- one view learns
-  pub reviewed : Grows → (s : State S (View T)) (r : Rule s) (id : ℕ) (v w : View T) → get_elem? s.views id ≡ some v → Grown v w → w.made ≡ v.made → Fits about (roots about) r.log (at s.words) w
+  pub reviewed : Grows → (s : State S (View T)) (r : Rule s) (id : ℕ) (v w : View T) → get_elem? s.views id ≡ some v → Grown v w → w.made ≡ v.made → Fits about (part.roots about) r.log (at s.words) w
       → Rule record { words = s.words; homes = s.homes; views = set s.views id w }
   reviewed grows s r id v w e g same fits = record {
     log = r.log;
@@ -61,7 +62,7 @@ module _ {T : Type 0} (S : Type 0) (about : About) (roots : About → History �
     wide = r.wide;
     nodes = r.nodes;
     made = subst (Made (size (node_buckets about)) (at s.words)) (sym (map_same made_of s.views id v w e same)) r.made;
-    each = each_set (λ (j : ℕ) (u : View T). Fits about (roots about) r.log (at s.words) u) s.views id w r.each fits;
+    each = each_set (λ (j : ℕ) (u : View T). Fits about (part.roots about) r.log (at s.words) u) s.views id w r.each fits;
     numbers = subst Numbers (sym (map_same face s.views id v w e g.face_is)) r.numbers;
     callers = subst (Callers r.log) (sym (map_same face s.views id v w e g.face_is)) r.callers;
     rooted = grows r.log _ s.views id v w r.rooted e g;
@@ -72,11 +73,11 @@ module _ {T : Type 0} (S : Type 0) (about : About) (roots : About → History �
 
   -- a view that has a word's pair more, and other counters
   learns : (s : State S (View T)) (r : Rule s) (id i p : ℕ) (o : Bool) (v : View T) → get_elem? s.views id ≡ some v → i < size (node_buckets about) → length v.made + open_probes o ≤ p
-      → Fits about (roots about) r.log (at s.words) (record v { known = gained i (at s.words i) v.known; probing = o; probes = p })
+      → Fits about (part.roots about) r.log (at s.words) (record v { known = gained i (at s.words i) v.known; probing = o; probes = p })
       × Grown v (record v { known = gained i (at s.words i) v.known; probing = o; probes = p })
   learns s r id i p o v e inside enough =
       let f = r.each id v e in
-      let P : List (ℕ × ℕ) → Type 0 = λ k. Fits about (roots about) r.log (at s.words) (record v { known = k; probing = o; probes = p }) × Grown v (record v { known = k; probing = o; probes = p }) in
+      let P : List (ℕ × ℕ) → Type 0 = λ k. Fits about (part.roots about) r.log (at s.words) (record v { known = k; probing = o; probes = p }) × Grown v (record v { known = k; probing = o; probes = p }) in
       ⊎_elim
       (λ (z : at s.words i ≡ 0). subst P (sym (gained_none i (at s.words i) v.known z)) (
         record { about_is = f.about_is; known = f.known; made = f.made; made_once = f.made_once; probed = enough; seen = f.seen; own = f.own; named = f.named; olds = f.olds; spent = f.spent },
@@ -91,7 +92,7 @@ module _ {T : Type 0} (S : Type 0) (about : About) (roots : About → History �
           probed = enough;
           seen = f.seen;
           own = f.own;
-          named = named_more about v.known ((i, t.0) ∷ v.known) v.seen (roots about v.seen v.root) (λ j x h. inr h) f.named;
+          named = named_more about v.known ((i, t.0) ∷ v.known) v.seen (part.roots about v.seen v.root) (λ j x h. inr h) f.named;
           olds = f.olds;
           spent = f.spent;
         },
@@ -102,26 +103,26 @@ module _ {T : Type 0} (S : Type 0) (about : About) (roots : About → History �
   unknown : (s : State S (View T)) (r : Rule s) (id i : ℕ) (v : View T) → get_elem? s.views id ≡ some v → at s.words i ≡ 0 → (x : ℕ) → Has (i, x) v.known → ⊥
   unknown s r id i v e z x h = node_used x (subst (λ (n : ℕ). IsNode n x) z ((r.each id v e).known i x h).1)
 
-  module _ (tells : Tells S about roots house told root) (houses : Houses S about roots house told root) (grows : Grows) where
-    sounds : (s : State S (View T)) → Rule s → (id : ℕ) (v : View T) → get_elem? s.views id ≡ some v → v.live ≡ true → Sound roots house told v
-    sounds s r id v e live = sound_of S about roots house told root tells houses s r id v e live
+  module _ (sounds_of : SoundOf S about part root) (houses : Houses S about part root) (grows : Grows) where
+    sounds : (s : State S (View T)) → Rule s → (id : ℕ) (v : View T) → get_elem? s.views id ≡ some v → v.live ≡ true → Sound part v
+    sounds s r id v e live = sound_of S about part root sounds_of houses s r id v e live
 
     -- the rule after a load, and what it says of the view
     seen_at : (s : State S (View T)) (r : Rule s) (id i word p : ℕ) (o : Bool) (v : View T) → get_elem? s.views id ≡ some v → suc i ≡ word → i < size (node_buckets about) → v.live ≡ true → length v.made + open_probes o ≤ p
         → Rule record { words = set s.words word (get_or s.words word 0); homes = s.homes; views = set s.views id (record v { known = gained i (get_or s.words word 0) v.known; probing = o; probes = p }) }
-        × Sound roots house told (record v { known = gained i (get_or s.words word 0) v.known; probing = o; probes = p })
+        × Sound part (record v { known = gained i (get_or s.words word 0) v.known; probing = o; probes = p })
     seen_at s r id i word p o v e is inside live enough =
         let n = get_or s.words word 0 in
         let same : at s.words i ≡ n = ap (λ (k : ℕ). get_or s.words k 0) is in
         let w = record v { known = gained i n v.known; probing = o; probes = p } in
-        let l = subst (λ (m : ℕ). Fits about (roots about) r.log (at s.words) (record v { known = gained i m v.known; probing = o; probes = p }) × Grown v (record v { known = gained i m v.known; probing = o; probes = p })) same (learns s r id i p o v e inside enough) in
+        let l = subst (λ (m : ℕ). Fits about (part.roots about) r.log (at s.words) (record v { known = gained i m v.known; probing = o; probes = p }) × Grown v (record v { known = gained i m v.known; probing = o; probes = p })) same (learns s r id i p o v e inside enough) in
         let r' = reviewed grows s r id v w e l.1 refl l.0 in
         (subst (λ (ws : List ℕ). Rule record { words = ws; homes = s.homes; views = set s.views id w }) (sym (set-get_or s.words word 0)) r', sounds _ r' id w (set_got s.views id v w e) live)
 
     -- a load of a node's bucket, where the view also counts
     looks_as : (slots id : ℕ) (me : Me S (View T)) (i word p : ℕ) (o : Bool) → suc i ≡ word → i < size (node_buckets about) → me.0.live ≡ true → me.0.about ≡ about → me.0.olds ≡ []
         → ((made : List ℕ) → length made + open_probes me.0.probing ≤ me.0.probes → length made + open_probes o ≤ p)
-        → Allows Rule slots id me word (λ n. n) (λ n m'. (m'.0 ≡ record me.0 { known = gained (word - 1) n me.0.known; probing = o; probes = p }) × Found roots house told (step slots word 0 0 none) me n m')
+        → Allows Rule slots id me word (λ n. n) (λ n m'. (m'.0 ≡ record me.0 { known = gained (word - 1) n me.0.known; probing = o; probes = p }) × Found part (step slots word 0 0 none) me n m')
     looks_as slots id me i word p o is inside live about_is olds enough s r sl e below =
         let n = get_or s.words word 0 in
         let same : at s.words i ≡ n = ap (λ (k : ℕ). get_or s.words k 0) is in
@@ -146,20 +147,20 @@ module _ {T : Type 0} (S : Type 0) (about : About) (roots : About → History �
         )
 
     pub looks : (slots id : ℕ) (me : Me S (View T)) (i word : ℕ) → suc i ≡ word → i < size (node_buckets about) → me.0.live ≡ true → me.0.about ≡ about → me.0.olds ≡ []
-        → Allows Rule slots id me word (λ n. n) (look_tells roots house told (step slots word 0 0 none) me)
+        → Allows Rule slots id me word (λ n. n) (look_tells part (step slots word 0 0 none) me)
     looks slots id me i word is inside live about_is olds = looks_as slots id me i word me.0.probes me.0.probing is inside live about_is olds (λ made le. le)
 
     pub begins : (slots id : ℕ) (me : Me S (View T)) (i word : ℕ) → suc i ≡ word → i < size (node_buckets about) → me.0.live ≡ true → me.0.about ≡ about → me.0.olds ≡ []
-        → Allows Rule slots id me word (λ n. n) (begin_tells roots house told (step slots word 0 0 none) me)
+        → Allows Rule slots id me word (λ n. n) (begin_tells part (step slots word 0 0 none) me)
     begins slots id me i word is inside live about_is olds = looks_as slots id me i word (suc me.0.probes) true is inside live about_is olds (λ made le. omega arith)
 
     -- the load of word 0 after a join
-    pub meets : (slots id : ℕ) (me : Me S (View T)) (word : ℕ) → word ≡ 0 → me.0.live ≡ true → Allows Rule slots id me word (λ n. n) (meet_tells roots house told (step slots word 0 0 none) me)
-    meets slots id me word first live s r sl e below =
+    pub after_joins : (slots id : ℕ) (me : Me S (View T)) (word : ℕ) → word ≡ 0 → me.0.live ≡ true → Allows Rule slots id me word (λ n. n) (after_join_tells part (step slots word 0 0 none) me)
+    after_joins slots id me word first live s r sl e below =
         let f = r.each id me.0 e in
         let w : View T = record me.0 { olds = [] } in
         let g : Grown me.0 w = record { about = refl; face_is = refl; busy = refl; seen = refl; known = λ j x h. h; root = refl } in
-        let fits : Fits about (roots about) r.log (at s.words) w = record { about_is = f.about_is; known = f.known; made = f.made; made_once = f.made_once; probed = f.probed; seen = f.seen; own = f.own; named = f.named; olds = λ o h. absurd h; spent = f.spent } in
+        let fits : Fits about (part.roots about) r.log (at s.words) w = record { about_is = f.about_is; known = f.known; made = f.made; made_once = f.made_once; probed = f.probed; seen = f.seen; own = f.own; named = f.named; olds = λ o h. absurd h; spent = f.spent } in
         let r' = reviewed grows s r id me.0 w e g refl fits in (
           w,
           keeps,
@@ -195,7 +196,7 @@ module _ {T : Type 0} (S : Type 0) (about : About) (roots : About → History �
               (made_more (size b) (at s.words) (at ws) (map made_of s.views) id i v.made r.made (at_map made_of s.views id v e)
               (λ m js p h. let u = at_unmap made_of s.views m js p in let q = (r.each m u.0 u.1).made i (subst (Has i) (sym u.2) h) in unknown s r m i u.0 u.1 free q.0 q.1)
               others);
-          each = each_set (λ (m : ℕ) (u : View T). Fits about (roots about) r.log (at ws) u) s.views id w
+          each = each_set (λ (m : ℕ) (u : View T). Fits about (part.roots about) r.log (at ws) u) s.views id w
               (λ m u p. let fu = r.each m u p in record { about_is = fu.about_is; known = λ k y h. ((fu.known k y h).0, stay k y (fu.known k y h).1); made = fu.made; made_once = fu.made_once; probed = fu.probed; seen = fu.seen; own = fu.own; named = fu.named; olds = fu.olds; spent = fu.spent })
               record {
                 about_is = f.about_is;
@@ -205,7 +206,7 @@ module _ {T : Type 0} (S : Type 0) (about : About) (roots : About → History �
                 probed = omega arith;
                 seen = f.seen;
                 own = f.own;
-                named = named_more about v.known ((i, x) ∷ v.known) v.seen (roots about v.seen v.root) (λ k y h. inr h) f.named;
+                named = named_more about v.known ((i, x) ∷ v.known) v.seen (part.roots about v.seen v.root) (λ k y h. inr h) f.named;
                 olds = f.olds;
                 spent = λ dead. absurd (cc (live, dead));
               };
@@ -216,14 +217,14 @@ module _ {T : Type 0} (S : Type 0) (about : About) (roots : About → History �
 
     pub puts : (slots id : ℕ) (me : Me S (View T)) (i word x j new : ℕ) → suc i ≡ word → i < size (node_buckets about) → me.0.live ≡ true → me.0.about ≡ about → me.0.olds ≡ [] → me.0.probing ≡ true
         → new ≡ node_word x → IsPair (node_buckets about) x → j < reach (node_buckets about) → bucket (node_buckets about) x j ≡ i → Passed (node_buckets about) (Listed me.0.known) x j
-        → Allows Rule slots id me word (λ n. either (eqb n 0) new n) (put_tells roots house told (step slots word 0 new none) me)
+        → Allows Rule slots id me word (λ n. either (eqb n 0) new n) (put_tells part (step slots word 0 new none) me)
     puts slots id me i word x j new is inside live about_is olds probing packed small near lies passed s r sl e below =
         let n = get_or s.words word 0 in
         let same : at s.words i ≡ n = ap (λ (k : ℕ). get_or s.words k 0) is in
         let d : i ≡ word - 1 = omega arith in
         let dx : x ≡ new - 9223372036854775808 = omega arith in
         exchanged n 0 new
-        (λ m. (w : View T) × (a : Act S) × Valid s.homes me.1 a × Rule (stepped s word m id me.1 w a) × put_tells roots house told (step slots word 0 new none) me n (w, carried_after me.1 a))
+        (λ m. (w : View T) × (a : Act S) × Valid s.homes me.1 a × Rule (stepped s word m id me.1 w a) × put_tells part (step slots word 0 new none) me n (w, carried_after me.1 a))
         (λ z.
         let r' = wins s r id i word x j me.0 e is inside (same ∙ z) small near lies passed live probing in
         let w = published i x me.0 in (

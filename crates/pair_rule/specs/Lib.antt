@@ -1,7 +1,10 @@
 pub mod Numbers
 pub mod View
 pub mod Paths
+pub mod Laws
+pub mod Part
 pub mod Rule
 pub mod Rest
+pub mod Splits
+pub mod NoRoots
 pub mod Plays
-pub mod Laws

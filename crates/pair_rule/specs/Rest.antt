@@ -2,7 +2,6 @@
 use Rattle.std.specs.Prelude.{◌≡◌, ℕ, ◌+◌, ◌*◌, ◌^◌, ◌<◌, ◌≤◌, ◌&&◌, List, [], true, false, Option, Some, None, drop, length, slice_index, count_by, if◌then◌else◌}
 use Rattle.std.specs.List.{list_any}
 use Rattle.std.specs.Prelude.{◌==◌}
-use Rattle.atomic_table.specs.Seated.{TableId}
 use Rattle.atomic_table.specs.declared.shared.Seat.{Seat}
 use Rattle.tree_shape.specs.Tree.{Has, IsNaming, Stands as StandsFor}
 use Rattle.tdb_base.specs.History.{Vector, History, is_fresh, calls}
@@ -13,6 +12,8 @@ use Rattle.pair_rule.specs.declared.sizes.About.{About}
 use Rattle.pair_rule.specs.declared.pass.PassOf.{PassOf}
 use Rattle.pair_rule.specs.Numbers.{child, Descends, NoRepeats}
 use Rattle.pair_rule.specs.Paths.{Buckets, node_buckets, size, bucket, reach, IsPair, OnPath, Listed}
+use Rattle.pair_rule.specs.Laws.{IsAbout}
+use Rattle.pair_rule.specs.Part.{Store, Part, root_pairs}
 use Rattle.pair_rule.specs.Rule.{Named, open_probes}
 
 -- the nodes are a naming of pairs: each index is a bucket's number and lies on its pair's path
@@ -44,16 +45,16 @@ module _ {T : Type 0} where
     pub all : (c : ℕ) → Has c v.born → Has c v.numbers
 
   -- then all calls are its own, it put all nodes there, and what it knows is the store
-  pub record HasAll (about : About) (roots : History → T → List (ℕ × ℕ)) (house : List (ℕ × ℕ) → Type 0) (v : View T) : Type 0 where
+  pub record HasAll (part : Part T) (about : About) (v : View T) : Type 0 where
     pub callers : (c : ℕ) → (Has c v.numbers → ⊥) → calls v.seen c ≡ []
     pub made : (i pair : ℕ) → Has (i, pair) v.known → Has i v.made
-    pub housed : Housed about house v.known (roots v.seen v.root) v.seen
+    pub housed : Housed about (part.house about) v.known (part.roots about v.seen v.root) v.seen
 
-  -- what every step tells of the view after it; `told` is the root part's own word
-  pub record Sound (roots : About → History → T → List (ℕ × ℕ)) (house : About → List (ℕ × ℕ) → Type 0) (told : About → View T → Type 0) (v : View T) : Type 0 where
+  -- what every step tells of the view after it
+  pub record Sound (part : Part T) (v : View T) : Type 0 where
     pub legal : IsLegal v.about.flags v.seen
     pub nodes : AreNodes v.about v.known
-    pub named : Named v.about v.known v.seen (roots v.about v.seen v.root)
+    pub named : Named v.about v.known v.seen (root_pairs part v)
     pub made : (i : ℕ) → Has i v.made → (pair : ℕ) × Has (i, pair) v.known
     pub made_once : NoRepeats v.made
     pub probed : length v.made + open_probes v.probing ≤ v.probes
@@ -61,18 +62,19 @@ module _ {T : Type 0} where
     pub numbers_once : NoRepeats v.numbers
     pub unborn : (n c : ℕ) → v.splits ≤ n → Descends (child v.number n) c → (Has c v.numbers → ⊥) × (Has c v.born → ⊥) × (calls v.seen c ≡ [])
     pub olds : (o : Old) → Has o v.olds → Extends o.seen v.seen × ((c : ℕ) → Has c o.numbers → calls v.seen c ≡ calls o.seen c)
-    pub whole : Whole v → HasAll v.about (roots v.about) (house v.about) v
-    pub root_told : told v.about v
+    pub whole : Whole v → HasAll part v.about v
+    pub root_sound : part.sound v.about v
 
-  -- a seat between two calls: it is of this table, holds no slot, and its view is a pass's
-  pub record SeatRests {S : Type 0} (roots : About → History → T → List (ℕ × ℕ)) (house : About → List (ℕ × ℕ) → Type 0) (told : About → View T → Type 0) (table : TableId) (about : About) (seat : Seat S (View T)) : Type 0 where
-    pub table_is : seat.table_id ≡ table
+  -- a seat between two calls: it is of this store, holds no slot, and its view is a pass's
+  pub record SeatRests {S : Type 0} (part : Part T) (store : Store) (seat : Seat S (View T)) : Type 0 where
+    pub table_is : seat.table_id ≡ store.table
     pub bare : seat.me.1 ≡ []
     pub live : seat.me.0.live ≡ true
     pub idle : seat.me.0.busy ≡ false
     pub no_olds : seat.me.0.olds ≡ []
-    pub about_is : seat.me.0.about ≡ about
-    pub sound : Sound roots house told seat.me.0
+    pub about_is : seat.me.0.about ≡ store.about
+    pub is_about : IsAbout part.sized part.count store.about
+    pub sound : Sound part seat.me.0
 
   -- the number is none of the view's, nor of those that had been split from these, and nobody called under it
   pub record IsUnknown (number : ℕ) (v : View T) : Type 0 where
@@ -92,13 +94,13 @@ module _ {T : Type 0} where
   last_vector p = if p.has_last then Some (drop (view p).about.slots p.last_tree.items) else None
 
   -- a pass between two calls
-  pub record AtRest (roots : About → History → T → List (ℕ × ℕ)) (house : About → List (ℕ × ℕ) → Type 0) (told : About → View T → Type 0) (table : TableId) (about : About) (p : PassOf T) : Type 0 where
-    pub seat : SeatRests roots house told table about p.seat
-    pub last_length : length p.last_tree.items ≡ 2 * about.slots
-    pub next_length : length p.next_tree.items ≡ 2 * about.slots
-    pub marks_length : length p.marks.items ≡ about.slots
-    pub last : p.has_last ≡ true → (position : ℕ) → 2 ≤ position → position < 2 * about.slots
-        → StandsFor about.width about.slots p.seat.me.0.known (drop about.slots p.last_tree.items) position (slice_index p.last_tree.items position)
-    pub last_slots : p.has_last ≡ true → (slot : ℕ) → slot < about.slots → slice_index p.last_tree.items (about.slots + slot) < 2 ^ about.width
+  pub record AtRest (part : Part T) (store : Store) (p : PassOf T) : Type 0 where
+    pub seat : SeatRests part store p.seat
+    pub last_length : length p.last_tree.items ≡ 2 * store.about.slots
+    pub next_length : length p.next_tree.items ≡ 2 * store.about.slots
+    pub marks_length : length p.marks.items ≡ store.about.slots
+    pub last : p.has_last ≡ true → (position : ℕ) → 2 ≤ position → position < 2 * store.about.slots
+        → StandsFor store.about.width store.about.slots p.seat.me.0.known (drop store.about.slots p.last_tree.items) position (slice_index p.last_tree.items position)
+    pub last_slots : p.has_last ≡ true → (slot : ℕ) → slot < store.about.slots → slice_index p.last_tree.items (store.about.slots + slot) < 2 ^ store.about.width
     pub nodes_count : p.nodes_count ≡ length p.seat.me.0.made
     pub names_count : p.names_count ≡ names_of_callers p.seat.me.0.numbers p.seat.me.0.seen

@@ -55,11 +55,11 @@ module _ {T : Type 0} where
   }
 
   -- what is left of a view when a pass was split from it, and the new pass's view
-  abbrev pub left : View T → View T
-  left v = record v { splits = suc v.splits; born = child v.number v.splits ∷ v.born }
+  abbrev pub parent_view : View T → View T
+  parent_view v = record v { splits = suc v.splits; born = child v.number v.splits ∷ v.born }
 
-  abbrev pub right : (T → T) → View T → View T
-  right cut v = record {
+  abbrev pub child_view : (T → T) → View T → View T
+  child_view split v = record {
     live = true;
     busy = false;
     probing = false;
@@ -73,15 +73,15 @@ module _ {T : Type 0} where
     made = [];
     probes = 0;
     olds = [];
-    root = cut v.root;
+    root = split v.root;
   }
 
   abbrev pub old_of : View T → Old
   old_of v = record { seen = v.seen; numbers = v.numbers }
 
   -- two views as one, before the load that follows, and after it
-  abbrev pub both : (T → T → T) → View T → View T → View T
-  both glue v w = record v {
+  abbrev pub joining_view : (T → T → T) → View T → View T → View T
+  joining_view join v w = record v {
     numbers = v.numbers ++ w.numbers;
     born = v.born ++ w.born;
     seen = longer v.seen w.seen;
@@ -89,11 +89,11 @@ module _ {T : Type 0} where
     made = v.made ++ w.made;
     probes = v.probes + w.probes;
     olds = old_of v ∷ old_of w ∷ [];
-    root = glue v.root w.root;
+    root = join v.root w.root;
   }
 
-  abbrev pub joined : (T → T → T) → View T → View T → View T
-  joined glue v w = record (both glue v w) { olds = [] }
+  abbrev pub joined_view : (T → T → T) → View T → View T → View T
+  joined_view join v w = record (joining_view join v w) { olds = [] }
 
   -- what stands in the place of a view that was joined into another
   abbrev pub nobody : T → View T

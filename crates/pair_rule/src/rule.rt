@@ -1,3 +1,5 @@
+//! The rule of a store, as its table has it.
+
 use crate::part::RootPart;
 use crate::sizes::About;
 use crate::view::View;
@@ -14,7 +16,7 @@ impl<R: RootPart<W, F>, const W: u32, const F: u32> TableRule<(), View<R::View>,
     ghost use Rattle.pair_rule.specs.Rule.{Kept};
     ghost use Rattle.pair_rule.specs.View.{newcomer};
 
-    ghost holds = { λ about. Kept about (R.roots about) (R.holds about) };
+    ghost holds = { λ about. Kept about (R.part.roots about) (R.holds about) };
 
     ghost first = { λ about. newcomer (R.first about) about };
 }

@@ -1,7 +1,7 @@
-ghost use Rattle.std.specs.Prelude.{◌≡◌, suc, false, ◌+◌, ◌*◌, ◌^◌, ◌<◌, ◌≤◌, IfOk, replicate};
-ghost use Rattle.packed_word.specs.Word.{IsLayout};
-ghost use Rattle.pair_rule.specs.Laws.{InRange, IsAbout};
-ghost use Rattle.pair_rule.specs.Paths.{node_buckets, size};
+//! The one table of a store's words, and how it is made.
+ghost use Rattle.std.specs.Prelude.{◌≡◌, false, ◌+◌, ◌*◌, ◌^◌, ◌<◌, ◌≤◌, IfOk, replicate};
+ghost use Rattle.pair_rule.specs.Laws.{InRange};
+ghost use Rattle.pair_rule.specs.Part.{IsTable};
 ghost use Rattle.pair_rule.specs.Rest.{AtRest, Whole, view};
 ghost use Rattle.pair_rule.specs.View.{newcomer};
 
@@ -10,25 +10,29 @@ use crate::pass::{Buffers, Pass};
 use crate::rule::NodeRule;
 use crate::sizes::{About, Sizes};
 use crate::view::View;
-use atomic_table::Table;
+use atomic_table::{Shared, Table};
 use std::alloc::Global;
+use std::marker::Model;
 use tdb_base::NoMemory;
 
 /// The one table of a store's words. `W` is the width of a slot and of an index, `F` the number of flags.
 ///
-/// The fields are for the layers of the store alone, which make their steps through `table`.
+/// Contracts see it as the store: which table it is, and what that is about.
 pub struct PairTable<R: RootPart<W, F>, const W: u32, const F: u32> {
-    pub table: Table<(), View<R::View>, About, NodeRule<R, W, F>, Global>,
-    pub about: About,
-    pub ghost key: { table.shared.key ≡ about },
-    pub ghost wide: { table.shared.table_id.words ≡ suc (size (node_buckets about)) + about.root_words },
-    pub ghost layout: { IsLayout W F },
-    pub ghost width: { about.width ≡ W },
-    pub ghost flags: { about.flags ≡ F },
-    pub ghost nodes: { (3 ≤ about.sizes.nodes) × (about.sizes.nodes ≤ 25) × (about.sizes.nodes ≤ W) },
-    pub ghost probe: { (1 ≤ about.sizes.probe) × (about.sizes.probe ≤ 4194304) },
-    pub ghost slots: { (2 ≤ about.slots) × (about.slots ≤ 1024) },
-    pub ghost roots: { about.root_words < 2 ^ 32 },
+    table: Table<(), View<R::View>, About, NodeRule<R, W, F>, Global>,
+    about: About,
+}
+
+impl<R: RootPart<W, F>, const W: u32, const F: u32> Model for PairTable<R, W, F> {
+    ghost use Rattle.std.specs.Prelude.{◌≡◌};
+    ghost use Rattle.pair_rule.specs.Part.{Store, IsTable};
+
+    ghost Value = { Store };
+
+    ghost view = { λ t. record { table = t.table.shared.table_id; about = t.about } };
+
+    ghost invariant = { λ t. (t.table.shared.key ≡ t.about)
+        × IsTable W F R.part (record { table = t.table.shared.table_id; about = t.about }) };
 }
 
 fn zeros(alloc: Global, count: usize) -> Result<Vec<u64>, NoMemory>
@@ -46,7 +50,8 @@ fn bucket_count(nodes: u32) -> usize
 }
 
 impl<R: RootPart<W, F>, const W: u32, const F: u32> PairTable<R, W, F> {
-    /// A table of these sizes for vectors of `slots` slots, in which no pair stands and nobody called, and its first pass, which has the number 0.
+    /// A table of these sizes for vectors of `slots` slots, in which no pair stands and nobody called, and its first
+    /// pass, which has the number 0.
     ///
     /// The words come from one list of zeros, which is freed before this returns.
     pub fn create(
@@ -54,12 +59,14 @@ impl<R: RootPart<W, F>, const W: u32, const F: u32> PairTable<R, W, F> {
         sizes: &Sizes,
         slots: usize,
     ) -> Result<(PairTable<R, W, F>, Pass<R, W, F>), NoMemory>
-        requires { InRange W F R.sized sizes.now slots }
-        ensures about { IfOk result (λ made. IsAbout W F R.sized R.count made.0.about × (made.0.about.sizes ≡ sizes.now) × (made.0.about.slots ≡ slots)) }
+        requires { InRange W F R.part.sized sizes.now slots }
+        ensures table { IfOk result (λ made. IsTable W F R.part made.0) }
+        ensures sizes { IfOk result (λ made. made.0.about.sizes ≡ sizes.now) }
+        ensures slots { IfOk result (λ made. made.0.about.slots ≡ slots) }
         ensures view { IfOk result (λ made. view made.1 ≡ newcomer (R.first made.0.about) made.0.about) }
         ensures whole { IfOk result (λ made. Whole (view made.1)) }
         ensures no_tree { IfOk result (λ made. made.1.has_last ≡ false) }
-        ensures rest { IfOk result (λ made. AtRest R.roots R.house R.told made.0.table.shared.table_id made.0.about made.1) }
+        ensures rest { IfOk result (λ made. AtRest R.part made.0 made.1) }
     {
         let root_words = R::words(sizes);
         let about = About {
@@ -76,15 +83,25 @@ impl<R: RootPart<W, F>, const W: u32, const F: u32> PairTable<R, W, F> {
     }
 
     /// The words, under the rule. The layers of the store step through it.
-    pub fn table(&self) -> &Table<(), View<R::View>, About, NodeRule<R, W, F>, Global>
-        ensures { result.now ≡ self.now.table }
+    pub fn shared(&self) -> &Shared<(), View<R::View>, About, NodeRule<R, W, F>>
+        ensures table { result.now.table_id ≡ self.now.table }
+        ensures key { result.now.key ≡ self.now.about }
+        ensures store { IsTable W F R.part self.now }
     {
-        &self.table
+        &self.table.shared
+    }
+
+    /// How many words the table has, word 0 and those of the roots among them.
+    pub fn words(&self) -> usize
+        ensures { result ≡ self.now.table.words }
+    {
+        self.table.word_count()
     }
 
     /// The sizes with which the table was made.
     pub fn sizes(&self) -> &Sizes
-        ensures { result.now ≡ self.now.about.sizes }
+        ensures sizes { result.now ≡ self.now.about.sizes }
+        ensures store { IsTable W F R.part self.now }
     {
         let about = &self.about;
         &about.sizes
@@ -92,7 +109,8 @@ impl<R: RootPart<W, F>, const W: u32, const F: u32> PairTable<R, W, F> {
 
     /// The number of slots of a vector, 2 to 1024.
     pub fn slots(&self) -> usize
-        ensures { result ≡ self.now.about.slots }
+        ensures slots { result ≡ self.now.about.slots }
+        ensures store { IsTable W F R.part self.now }
     {
         let about = &self.about;
         about.slots

@@ -11,8 +11,7 @@ fn passes_are_split_and_joined(rt: HostRuntime) -> Result<(), Fail> {
     };
     let (table, mut first) = PairTable::<NoRoot, 28, 7>::create(rt.alloc(), &sizes, 5)?;
     assert!(rt; *table.sizes() == sizes && table.slots() == 5);
-    let words = table.table();
-    assert!(rt; words.word_count() == 17);
+    assert!(rt; table.words() == 17);
     let mut second = table.split(rt.alloc(), &mut first)?;
     assert!(rt; !second.has_last && second.last_tree.len() == 10 && second.marks.len() == 5);
     table.meet(&mut second, &mut first);

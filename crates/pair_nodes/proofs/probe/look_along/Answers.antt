@@ -28,7 +28,7 @@ settle-requires g c =
               (
                 step,
                 line_near about c.args.word c.args.walk.now.passed c.loop-i.i c.args.walk.now.course r.walk.0 r.walk.1 (omega arith),
-                line_bucket about g.row.W c.args.word step c.bucket-at.result c.args.walk.now.course c.args.table.now.width r.walk.0 c.bucket-at.ensures.bucket,
+                line_bucket about g.row.W c.args.word step c.bucket-at.result c.args.walk.now.course c.requires.width r.walk.0 c.bucket-at.ensures.bucket,
                 load_passed about v w c.bucket-at.result c.look-found.result (pair_of_word c.args.word) step e.view e.word i.so_far.passed,
               ),
               (
@@ -66,7 +66,7 @@ loop-i-preserved g c =
     let w = c.look-found.new.pass.seat.me.0 in
     let z = c.settle.new.pass.seat.me.0 in
     let step = 8 * c.args.walk.now.passed + c.loop-i.i in
-    let lies = line_bucket about g.row.W c.args.word step c.bucket-at.result c.args.walk.now.course c.args.table.now.width r.walk.0 c.bucket-at.ensures.bucket in
+    let lies = line_bucket about g.row.W c.args.word step c.bucket-at.result c.args.walk.now.course c.requires.width r.walk.0 c.bucket-at.ensures.bucket in
     let passed = load_passed about v w c.bucket-at.result c.look-found.result pair step e.view e.word i.so_far.passed in
     let on : Underway pair (step + 1) 0 v z = underway_then pair (step + 1) 0 0 v w z (probed_learned about c.bucket-at.result c.look-found.result v w e.word e.view) (f.told step lies passed) in
     let next : step + 1 ≡ 8 * c.args.walk.now.passed + (c.loop-i.i + 1) = omega arith in

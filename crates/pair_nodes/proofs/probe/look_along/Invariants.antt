@@ -5,7 +5,7 @@ use Rattle.pair_nodes.proofs.probe.look_along.Given as goal
 
 abbrev pub invariant-loop-i : goal.invariant-loop-i
 invariant-loop-i g l = record {
-  rest : AtRest g.R.RootPart.roots g.R.RootPart.house g.R.RootPart.told l.table.table.shared.table_id l.table.about l.pass;
+  rest : AtRest g.R.RootPart.part l.table l.pass;
   tree : KeepsTree l.initial.pass l.pass;
   so_far : Underway (pair_of_word l.word) (8 * l.walk.passed + l.i) 0 (view l.initial.pass) (view l.pass);
 }

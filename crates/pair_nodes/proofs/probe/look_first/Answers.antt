@@ -17,7 +17,7 @@ settle-requires g c =
     let w = c.begin-found.new.pass.seat.me.0 in
     let zero : 8 * c.args.walk.now.passed + 0 ≡ 0 = omega (arith, r.walk.1) in
     let near = line_near about c.args.word c.args.walk.now.passed 0 c.args.walk.now.course r.walk.0 (omega (arith, r.walk.1, r.walk.2)) (omega arith) in
-    let lies = line_bucket about g.row.W c.args.word _ c.bucket-at.result c.args.walk.now.course c.args.table.now.width r.walk.0 c.bucket-at.ensures.bucket in (
+    let lies = line_bucket about g.row.W c.args.word _ c.bucket-at.result c.args.walk.now.course c.requires.width r.walk.0 c.bucket-at.ensures.bucket in (
       omega arith,
       (
         e.rest,
@@ -45,7 +45,7 @@ returns-clause-told g c =
     let z = c.settle.new.pass.seat.me.0 in
     let probed = probed_begun about c.bucket-at.result c.begin-found.result v w e.word e.view in
     let zero : 8 * c.args.walk.now.passed + 0 ≡ 0 = omega (arith, r.walk.1) in
-    let lies = line_bucket about g.row.W c.args.word _ c.bucket-at.result c.args.walk.now.course c.args.table.now.width r.walk.0 c.bucket-at.ensures.bucket in
+    let lies = line_bucket about g.row.W c.args.word _ c.bucket-at.result c.args.walk.now.course c.requires.width r.walk.0 c.bucket-at.ensures.bucket in
     told_as c.settle.result _ _ _ _
     (λ told. let on = told _ lies (λ step lt. absurd (omega (arith, lt, zero))) in
     let one : (8 * c.args.walk.now.passed + 0) + 1 ≡ 1 = omega (arith, zero) in

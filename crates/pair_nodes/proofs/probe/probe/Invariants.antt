@@ -5,7 +5,7 @@ use Rattle.pair_nodes.proofs.probe.probe.Given as goal
 
 abbrev pub invariant-loop-line : goal.invariant-loop-line
 invariant-loop-line g l = record {
-  rest : AtRest g.R.RootPart.roots g.R.RootPart.house g.R.RootPart.told l.table.table.shared.table_id l.table.about l.pass;
+  rest : AtRest g.R.RootPart.part l.table l.pass;
   tree : KeepsTree l.fn.pass l.pass;
   course : l.walk.course ≡ course_of l.table.about l.word;
   passed : l.walk.passed ≡ l.line - 1;

@@ -8,18 +8,20 @@ use Rattle.pair_nodes.proofs.Views.{buckets_small, rests_step, shown_grown}
 use Rattle.pair_nodes.proofs.steps.look.Goals as goal
 
 pub overflow_add-at : goal.overflow_add-at
-overflow_add-at g c = let small = buckets_small (node_buckets c.args.table.now.about) c.args.table.now.nodes.1 in omega arith
+overflow_add-at g c = let small = buckets_small (node_buckets c.args.table.now.about) c.requires.rest.seat.is_about.range.most_nodes in omega arith
 
 pub load-requires : goal.load-requires
 load-requires g c =
-    let t = c.args.table.now.table.shared in
-    let key = c.args.table.now.key in
+    let t = c.shared-shared.result.now in
+    let e = c.shared-shared.ensures in
+    let key = e.key in
+    let words = ap (λ z. z.words) e.table in
     let inside = subst (λ (a : About). c.args.at < size (node_buckets a)) (sym key) c.requires.inside in
     let about_is = c.requires.rest.seat.about_is ∙ sym key in
-    rw c.table.ensures (
-      c.requires.rest.seat.table_is,
-      omega (arith, c.args.table.now.wide),
-      looks _ t.key g.R.RootPart.roots g.R.RootPart.house g.R.RootPart.told (g.R.RootPart.holds t.key) (g.met.R.RootPart.tells t.key) (g.met.R.RootPart.houses t.key) (g.met.R.RootPart.keeps t.key) t.table_id.slots
+    (
+      c.requires.rest.seat.table_is ∙ sym e.table,
+      omega (arith, words, e.store.words_are),
+      looks _ t.key g.R.RootPart.part (g.R.RootPart.holds t.key) (g.met.R.RootPart.sounds t.key) (g.met.R.RootPart.houses t.key) (g.met.R.RootPart.keeps t.key) t.table_id.slots
           c.args.pass.now.seat.id c.args.pass.now.seat.me c.args.at (c.args.at + 1) (omega arith) inside c.requires.rest.seat.live about_is c.requires.rest.seat.no_olds,
     )
 
@@ -29,7 +31,7 @@ returns-clause-rest g c =
     let e = c.load.ensures in
     let tells = e.2 in
     let grown : Grown v c.load.new.seat.me.0 = subst (λ u. Grown v u) (sym tells.0) (shown_grown v.about ((c.args.at + 1) - 1) c.load.result _ _ v tells.1.word) in
-    rests_step g.R.RootPart.roots g.R.RootPart.house g.R.RootPart.told _ _ c.args.pass.now _ 0 c.requires.rest e.0 tells.1.slots_stay grown (ap (λ u. u.olds) tells.0) tells.1.sound (ap (λ u. length u.made) tells.0 ∙ sym (add-zero _)) refl refl refl refl (sym (add-zero _)) refl
+    rests_step g.R.RootPart.part _ c.args.pass.now _ 0 c.requires.rest e.0 tells.1.slots_stay grown (ap (λ u. u.olds) tells.0) tells.1.sound (ap (λ u. length u.made) tells.0 ∙ sym (add-zero _)) refl refl refl refl (sym (add-zero _)) refl
 
 pub returns-clause-free : goal.returns-clause-free
 returns-clause-free g c = let d : (c.args.at + 1) - 1 ≡ c.args.at = omega arith in

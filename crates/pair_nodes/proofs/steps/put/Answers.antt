@@ -10,12 +10,14 @@ use Rattle.pair_nodes.proofs.Views.{buckets_small, rests_step, shown_grown, publ
 use Rattle.pair_nodes.proofs.steps.put.Goals as goal
 
 pub overflow_add-at : goal.overflow_add-at
-overflow_add-at g c = let small = buckets_small (node_buckets c.args.table.now.about) c.args.table.now.nodes.1 in omega arith
+overflow_add-at g c = let small = buckets_small (node_buckets c.args.table.now.about) c.requires.rest.seat.is_about.range.most_nodes in omega arith
 
 pub compare_exchange-found-requires : goal.compare_exchange-found-requires
 compare_exchange-found-requires g c =
-    let t = c.args.table.now.table.shared in
-    let key = c.args.table.now.key in
+    let t = c.shared-shared.result.now in
+    let e = c.shared-shared.ensures in
+    let key = e.key in
+    let words = ap (λ z. z.words) e.table in
     let v = c.args.pass.now.seat.me.0 in
     let pair = pair_of_word c.args.word in
     let r = c.requires in
@@ -26,17 +28,16 @@ compare_exchange-found-requires g c =
     let near = subst (λ (a : About). step < reach (node_buckets a)) (sym key) r.passed.1 in
     let lies = subst (λ (a : About). bucket (node_buckets a) pair step ≡ c.args.at) (sym key) r.passed.2 in
     let passed = subst (λ (a : About). Passed (node_buckets a) (Listed v.known) pair step) about_is r.passed.3 in
-    rw c.table.ensures (
-      r.rest.seat.table_is,
-      omega (arith, c.args.table.now.wide),
-      puts _ t.key g.R.RootPart.roots g.R.RootPart.house g.R.RootPart.told (g.R.RootPart.holds t.key) (g.met.R.RootPart.tells t.key) (g.met.R.RootPart.houses t.key) (g.met.R.RootPart.keeps t.key) t.table_id.slots
+    (
+      r.rest.seat.table_is ∙ sym e.table,
+      omega (arith, words, e.store.words_are),
+      puts _ t.key g.R.RootPart.part (g.R.RootPart.holds t.key) (g.met.R.RootPart.sounds t.key) (g.met.R.RootPart.houses t.key) (g.met.R.RootPart.keeps t.key) t.table_id.slots
           c.args.pass.now.seat.id c.args.pass.now.seat.me c.args.at (c.args.at + 1) pair step c.args.word (omega arith) inside r.rest.seat.live about_is r.rest.seat.no_olds r.probing r.pair.0 is_pair near lies passed,
     )
 
 pub overflow_add-pass : goal.overflow_add-pass
 overflow_add-pass g c =
-    let t = c.args.table.now in
-    let few = few_nodes g.R.RootPart.roots g.R.RootPart.house g.R.RootPart.told t.table.shared.table_id t.about c.args.pass.now c.requires.rest t.nodes.1 in
+    let few = few_nodes g.R.RootPart.part c.args.table.now c.args.pass.now c.requires.rest in
     omega arith
 
 pub returns-then-found-eq0-clause-rest : goal.returns-then-found-eq0-clause-rest
@@ -46,7 +47,7 @@ returns-then-found-eq0-clause-rest g c =
     let tells = e.2 in
     let won = tells.1 c.if-found-eq0.true in
     let grown : Grown v c.compare_exchange-found.new.seat.me.0 = subst (λ u. Grown v u) (sym won) (published_grown _ _ v) in
-    rests_step g.R.RootPart.roots g.R.RootPart.house g.R.RootPart.told _ _ c.args.pass.now _ 1 c.requires.rest e.0 tells.3.slots_stay grown (ap (λ u. u.olds) won) tells.3.sound (ap (λ u. length u.made) won ∙ (omega arith)) refl refl refl refl refl refl
+    rests_step g.R.RootPart.part _ c.args.pass.now _ 1 c.requires.rest e.0 tells.3.slots_stay grown (ap (λ u. u.olds) won) tells.3.sound (ap (λ u. length u.made) won ∙ (omega arith)) refl refl refl refl refl refl
 
 pub returns-else-found-eq0-clause-rest : goal.returns-else-found-eq0-clause-rest
 returns-else-found-eq0-clause-rest g c =
@@ -55,7 +56,7 @@ returns-else-found-eq0-clause-rest g c =
     let tells = e.2 in
     let lost = tells.2 c.if-found-eq0.false in
     let grown : Grown v c.compare_exchange-found.new.seat.me.0 = subst (λ u. Grown v u) (sym lost) (shown_grown v.about ((c.args.at + 1) - 1) c.compare_exchange-found.result v.probes v.probing v tells.3.word) in
-    rests_step g.R.RootPart.roots g.R.RootPart.house g.R.RootPart.told _ _ c.args.pass.now _ 0 c.requires.rest e.0 tells.3.slots_stay grown (ap (λ u. u.olds) lost) tells.3.sound (ap (λ u. length u.made) lost ∙ sym (add-zero _)) refl refl refl refl (sym (add-zero _)) refl
+    rests_step g.R.RootPart.part _ c.args.pass.now _ 0 c.requires.rest e.0 tells.3.slots_stay grown (ap (λ u. u.olds) lost) tells.3.sound (ap (λ u. length u.made) lost ∙ sym (add-zero _)) refl refl refl refl (sym (add-zero _)) refl
 
 pub returns-then-found-eq0-clause-free : goal.returns-then-found-eq0-clause-free
 returns-then-found-eq0-clause-free g c = let d : (c.args.at + 1) - 1 ≡ c.args.at = omega arith in

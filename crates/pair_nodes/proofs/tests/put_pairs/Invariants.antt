@@ -2,4 +2,4 @@ use Rattle.pair_rule.specs.Rest.{AtRest}
 use Rattle.pair_nodes.proofs.tests.put_pairs.Given as goal
 
 abbrev pub invariant-loop-turn : goal.invariant-loop-turn
-invariant-loop-turn g l = AtRest g.R.RootPart.roots g.R.RootPart.house g.R.RootPart.told l.nodes.table.table.shared.table_id l.nodes.table.about l.pass
+invariant-loop-turn g l = AtRest g.R.RootPart.part l.nodes l.pass

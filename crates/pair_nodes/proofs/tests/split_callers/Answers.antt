@@ -1,13 +1,13 @@
 use Rattle.std.proofs.Common.{subst, sym}
 use Rattle.std.specs.Prelude.{All}
 use Rattle.std.proofs.lemmas.List.Elements.{All-push}
-use Rattle.pair_rule.specs.Laws.{no_roots, no_house, NobodyCalled}
+use Rattle.pair_rule.specs.NoRoots.{no_roots}
 use Rattle.pair_rule.specs.Rest.{AtRest}
 use Rattle.pair_nodes.proofs.tests.split_callers.Goals as goal
 
 pub loop-number-preserved : goal.loop-number-preserved
 loop-number-preserved c =
-    let P = λ (x : Rattle.pair_nodes.specs.declared.tests.Caller.Caller (Unit {0})). AtRest no_roots no_house NobodyCalled c.args.nodes.now.table.table.shared.table_id c.args.nodes.now.table.about x.pass in
+    let P = λ (x : Rattle.pair_nodes.specs.declared.tests.Caller.Caller (Unit {0})). AtRest no_roots c.args.nodes.now.table.table.shared.table_id c.args.nodes.now.about x.pass in
     record {
       rest = c.split.ensures.rest;
       callers = subst (λ l. All P l) (sym c.in_ok-push.ensures.items) (All-push P c.loop-number.callers.items _ c.loop-number.invariant.callers c.in_ok-pass.ensures.new_rest);

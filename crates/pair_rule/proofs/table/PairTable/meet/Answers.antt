@@ -1,34 +1,34 @@
 use Rattle.std.proofs.Common.{arith, refl, ap, ◌∙◌, subst}
 use Rattle.tree_shape.specs.Tree.{IsPart}
-use Rattle.pair_rule.specs.View.{right, joined}
-use Rattle.pair_rule.specs.Rest.{KeepsCalls, view}
-use Rattle.pair_rule.proofs.Rests.{pass_joined, nodes_joined, no_names_given}
+use Rattle.pair_rule.specs.Part.{root_pairs}
+use Rattle.pair_rule.specs.View.{child_view, joined_view}
+use Rattle.pair_rule.specs.Rest.{view}
+use Rattle.pair_rule.specs.Splits.{HasTaken}
+use Rattle.pair_rule.proofs.Rests.{pass_joined, no_names_given, pass_split}
 use Rattle.pair_rule.proofs.table.PairTable.meet.Goals as goal
 
-pub returns-clause-hearer_rest : goal.returns-clause-hearer_rest
-returns-clause-hearer_rest g c =
-    let t = c.args.self.now in
-    let o = c.cut-seat.ensures.new_view in
+pub returns : goal.returns
+returns g c =
+    let part = g.R.RootPart.part in
+    let store = c.args.self.now in
+    let s = c.split_seat-seat.ensures in
+    let e = c.join_seat.ensures in
     let v = view c.args.teller.now in
-    let w = right g.R.RootPart.cut v in
-    let is = c.glue.ensures.view ∙ ap (λ u. joined g.R.RootPart.glue (view c.args.hearer.now) u) o in
-    let none = no_names_given g.R.RootPart.roots g.R.RootPart.house g.R.RootPart.told t.table.shared.table_id t.about v c.requires.teller.seat.sound in
-    pass_joined g.R.RootPart.roots g.R.RootPart.house g.R.RootPart.told t.table.shared.table_id t.about g.R.RootPart.glue c.args.hearer.now _ w c.requires.hearer c.glue.ensures.rest is
-    c.glue.ensures.calls.0 (subst (λ u. KeepsCalls u c.glue.new.seat.me.0) o c.glue.ensures.calls.1) refl refl refl refl (omega arith) (omega (arith, none))
-
-pub returns-clause-nodes : goal.returns-clause-nodes
-returns-clause-nodes g c =
-    let o = c.cut-seat.ensures.new_view in
-    let is = c.glue.ensures.view ∙ ap (λ u. joined g.R.RootPart.glue (view c.args.hearer.now) u) o in
-    nodes_joined g.R.RootPart.roots g.R.RootPart.house g.R.RootPart.told g.R.RootPart.glue (view c.args.hearer.now) (right g.R.RootPart.cut (view c.args.teller.now)) c.glue.new.seat.me.0 is
-
-pub returns-clause-roots : goal.returns-clause-roots
-returns-clause-roots g c =
-    let about = c.args.self.now.about in
-    let u = c.glue.new.seat.me.0 in
-    let v = view c.args.teller.now in
-    let part = subst (λ x. IsPart (g.R.RootPart.roots about x.seen x.root) (g.R.RootPart.roots about u.seen u.root)) c.cut-seat.ensures.new_view c.glue.ensures.roots.1 in
-    (c.glue.ensures.roots.0, subst (λ l. IsPart l (g.R.RootPart.roots about u.seen u.root)) (g.met.R.RootPart.roots_cut about v.seen v.root) part)
-
-pub returns-clause-calls : goal.returns-clause-calls
-returns-clause-calls g c = (c.glue.ensures.calls.0, subst (λ u. KeepsCalls u c.glue.new.seat.me.0) c.cut-seat.ensures.new_view c.glue.ensures.calls.1)
+    let w = child_view part.split v in
+    let u = c.join_seat.new.seat.me.0 in
+    let is = e.view ∙ ap (λ x. joined_view part.join (view c.args.hearer.now) x) s.new_view in
+    let none = no_names_given part store v c.requires.teller.seat.sound in
+    let heard = subst (λ x. HasTaken part x u) s.new_view e.other_taken in
+    record {
+      teller_rest = pass_split part store c.args.teller.now _ c.requires.teller s.rest s.view refl refl refl refl refl refl;
+      rest = pass_joined part store c.args.hearer.now _ w c.requires.hearer e.rest is e.taken.calls heard.calls refl refl refl refl (omega arith) (omega (arith, none));
+      teller_view = s.view;
+      view_is = is;
+      taken = e.taken;
+      seen = heard.seen;
+      known = heard.known;
+      roots = subst (λ l. IsPart l (root_pairs part u)) (g.met.R.RootPart.roots_split v.about v.seen v.root) heard.roots;
+      calls = heard.calls;
+      teller_others = refl;
+      others = refl;
+    }
