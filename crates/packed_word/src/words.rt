@@ -92,9 +92,9 @@ impl<const W: u32, const F: u32> Layout<W, F> {
         word >> (2 * W) & ones(F)
     }
 
-    // The word's present bit and pair.
+    /// The word's present bit and pair, with no flag set.
     #[inline]
-    fn without_flags(word: u64) -> u64
+    pub fn without_flags(word: u64) -> u64
         requires { IsLayout W F }
         ensures { result ≡ bit_at word 63 * 2 ^ 63 + pair_of W (left_of W word) (right_of W word) }
     {

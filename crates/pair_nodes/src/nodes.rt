@@ -3,6 +3,7 @@ ghost use Rattle.std.specs.Prelude.{◌≡◌, ◌<◌, ◌^◌, ℕ, IfOk, OnEr
 ghost use Rattle.tree_shape.specs.Tree.{Has};
 ghost use Rattle.packed_word.specs.Word.{pair_of};
 ghost use Rattle.tdb_base.specs.Fakes.{counted};
+ghost use Rattle.pair_rule.specs.Part.{IsTable};
 ghost use Rattle.pair_rule.specs.Paths.{node_buckets, Blocked};
 ghost use Rattle.pair_rule.specs.Rest.{AtRest, view};
 ghost use Rattle.pair_nodes.specs.Probe.{Probed, PutAt, KeepsTree};
@@ -47,7 +48,8 @@ impl<R: RootPart<W, F>, const W: u32, const F: u32> Nodes<R, W, F> {
 
     /// The table, of which passes are split and in which they are joined.
     pub fn table(&self) -> &PairTable<R, W, F>
-        ensures { result.now ≡ self.now }
+        ensures table { result.now ≡ self.now }
+        ensures store { IsTable W F R.part self.now }
     {
         &self.table
     }

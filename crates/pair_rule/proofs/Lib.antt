@@ -13,3 +13,4 @@ pub mod Advance
 pub mod Names
 pub mod Catches
 pub mod Widths
+pub mod Calling

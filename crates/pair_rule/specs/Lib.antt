@@ -8,3 +8,4 @@ pub mod Rest
 pub mod Splits
 pub mod NoRoots
 pub mod Plays
+pub mod Calls

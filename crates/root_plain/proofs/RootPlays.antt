@@ -18,7 +18,9 @@ use Rattle.pair_rule.proofs.Advance.{catch}
 use Rattle.pair_rule.proofs.Names.{root_more}
 use Rattle.root_plain.specs.declared.root.Roots.{Roots}
 use Rattle.root_plain.specs.Plain.{root_at, Plain}
-use Rattle.root_plain.specs.Plays.{roots_of, call, Called, wants, Shows, sought, claimed}
+use Rattle.pair_rule.specs.Calls.{call, Called}
+use Rattle.root_plain.specs.Plain.{plain}
+use Rattle.root_plain.specs.Plays.{wants, Shows, sought, claimed}
 use Rattle.root_plain.specs.declared.plays.Wanted.TheVariants.{Pair}
 use Rattle.root_plain.proofs.RootSteps.{behind, behind_at, first, sees, wins}
 
@@ -27,7 +29,7 @@ V = View Roots
 
 module _ (S : Type 0) (about : About) where
   abbrev Rule : State S V → Type 0
-  Rule = Kept about (roots_of about) (Plain about)
+  Rule = Kept about (plain.roots about) (Plain about)
 
   -- a load of a root bucket
   pub seeks : (slots id : ℕ) (me : Me S V) (wanted : ℕ → Bool) (i word : ℕ) → me.0.live ≡ true → me.0.about ≡ about → first S about + i ≡ word → i < size (root_buckets about)
@@ -62,7 +64,7 @@ module _ (S : Type 0) (about : About) where
       let k = wins S about s r id me.0 e live i word x j vector is inside free small near lies passed stands long in
       let h = r.holder.1 in
       let w = catch me.0 h (r.log ++ call me.0.number true vector i ∷ []) me.0.busy (record { roots = (i, x) ∷ (h.root.roots ++ me.0.root.roots) }) in
-      let made : Called true i x me.0 w = record {
+      let made : Called plain true i x me.0 w = record {
         vector = vector;
         stands = subst (λ (y : About). RootStands y.width y.slots (h.known ++ me.0.known) x vector) (sym about_is) (root_more about me.0.known (h.known ++ me.0.known) x vector (λ c y b. has_back (c, y) h.known me.0.known b) stands);
         long = long ∙ ap (λ (y : About). y.slots) (sym about_is);
@@ -73,7 +75,7 @@ module _ (S : Type 0) (about : About) where
         keeps,
         tt,
         subst (λ (m : ℕ). Rule (stepped s word m id me.1 w keeps)) as_word k.0,
-        (record { slots_stay = refl; busy_stays = refl; no_olds = refl }, (λ _. subst (λ (q : ℕ × ℕ). Called true q.0 q.1 me.0 w) (λ c. (d c, dx c)) made), (λ used. absurd {A = Shows (wants (Pair (new - 9223372036854775808))) (word - first_root me.0.about) n me.0 w} (used z))),
+        (record { slots_stay = refl; busy_stays = refl; no_olds = refl }, (λ _. subst (λ (q : ℕ × ℕ). Called plain true q.0 q.1 me.0 w) (λ c. (d c, dx c)) made), (λ used. absurd {A = Shows (wants (Pair (new - 9223372036854775808))) (word - first_root me.0.about) n me.0 w} (used z))),
       ))
       (λ used.
       let t = sees S about s r id me.0 e live (wants (Pair x)) i n found about_is inside in (
@@ -83,7 +85,7 @@ module _ (S : Type 0) (about : About) where
         subst (λ (ws : List ℕ). Rule record { words = ws; homes = s.homes; views = set s.views id t.after }) (sym (set-get_or s.words word 0)) t.rule,
         (
           record { slots_stay = refl; busy_stays = t.busy; no_olds = t.olds },
-          (λ z. absurd {A = Called true (word - first_root me.0.about) (new - 9223372036854775808) me.0 t.after} (used z)),
+          (λ z. absurd {A = Called plain true (word - first_root me.0.about) (new - 9223372036854775808) me.0 t.after} (used z)),
           (λ _. subst (λ (q : ℕ × ℕ). Shows (wants (Pair q.1)) q.0 n me.0 t.after) (λ c. (d c, dx c)) t.shows),
         ),
       ))

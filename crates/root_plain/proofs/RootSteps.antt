@@ -24,10 +24,13 @@ use Rattle.pair_rule.proofs.Buckets.{filled_put, nowhere}
 use Rattle.pair_rule.proofs.Advance.{catch, SameNodes, united, catches}
 use Rattle.pair_rule.proofs.Names.{SameNames, same_none, same_seen, fresh_flags, other_flags, named_same, root_more, named_caught, named_fresh}
 use Rattle.root_plain.specs.declared.root.Roots.{Roots}
-use Rattle.root_plain.specs.Plain.{both_roots, IsPlain, Holds, IsRoot, root_at, HasFlags, Plain, Told}
+use Rattle.root_plain.specs.Plain.{both_roots, IsPlain, Holds, IsRoot, root_at, HasFlags, Plain}
 use Rattle.root_plain.specs.Words.{same_word, holds_used, root_one, root_used}
-use Rattle.root_plain.specs.Laws.{plain_tells, plain_houses}
-use Rattle.root_plain.specs.Plays.{roots_of, house_of, CaughtUp, call, Shows}
+use Rattle.root_plain.specs.Laws.{plain_sounds, plain_houses}
+use Rattle.pair_rule.specs.Calls.{call}
+use Rattle.pair_rule.specs.Plays.{Caught}
+use Rattle.root_plain.specs.Plain.{plain}
+use Rattle.root_plain.specs.Plays.{Shows}
 
 abbrev V : Type 0
 V = View Roots
@@ -56,7 +59,7 @@ root_room about is = sym is.root_words_are
 
 module _ (S : Type 0) (about : About) where
   abbrev pub Rule : State S V → Type 0
-  Rule = Kept about (roots_of about) (Plain about)
+  Rule = Kept about (plain.roots about) (Plain about)
 
   abbrev pub behind : List ℕ → List ℕ
   behind ws = drop (suc (size (node_buckets about))) ws
@@ -119,16 +122,16 @@ module _ (S : Type 0) (about : About) where
 
     -- a load of a root bucket, after which the view has caught up and made calls that change no name and no flag
     looked : (more : History) → ((x : Entry) → Has x more → x.caller ≡ v.number) → IsLegal about.flags (r.log ++ more) → SameNames r.log (r.log ++ more)
-        → Rule record { words = s.words; homes = s.homes; views = set s.views id (caught more) } × CaughtUp more v (caught more)
+        → Rule record { words = s.words; homes = s.homes; views = set s.views id (caught more) } × Caught plain more v (caught more)
     looked more mine legal like =
         let p = r.rooted in
         let after = plain_after about r.log (r.log ++ more) (behind s.words) (behind s.words) s.views id (caught more) p p.filled
         (λ k inside used. let u = p.used k inside used in (u.0, like.names_are u.0 ∙ u.1))
         (λ u k n. let q = p.names u k (sym (like.names_are u) ∙ n) in (q.0, record { pair = q.1.pair; flags = q.1.flags; flags_are = like.flags_are u ∙ q.1.flags_are; holds = q.1.holds }))
         (λ k x a. a) both_there in
-        let c = catches S about roots_of house_of Told (Plain about) s r id r.holder.0 v h s.words more v.busy both e live r.holder.2 mine (refl, λ k inside. refl) legal
+        let c = catches S about plain (Plain about) s r id r.holder.0 v h s.words more v.busy both e live r.holder.2 mine (refl, λ k inside. refl) legal
         (named_same about (h.known ++ v.known) r.log (r.log ++ more) both.roots like both_named) after
-        (λ log ws nodes views j u kept legal at fits alive. plain_tells about log ws views j u kept at)
+        (λ log ws nodes views j u kept legal at fits alive. plain_sounds about log ws views j u kept at)
         (λ log ws nodes views j u kept legal at fits alive all. plain_houses about log ws nodes views j u kept at fits all)
         (λ k x a. has_back (k, x) h.root.roots v.root.roots a) in
         (c.0, c.1.0)
@@ -306,7 +309,7 @@ module _ (S : Type 0) (about : About) where
           by None t = refl
           by (Some m) t =
               let k = name_is vector m t in
-              let nodes = united S about roots_of house_of Told (Plain about) s r id r.holder.0 v h e r.holder.2 in
+              let nodes = united S about plain (Plain about) s r id r.holder.0 v h e r.holder.2 in
               let one : k.pair ≡ x = one_root about.width about.slots (h.known ++ v.known) nodes.naming k.pair x vector (root_more about h.known (h.known ++ v.known) k.pair vector (λ c y b. has_front (c, y) h.known v.known b) k.stands) both_known in
               absurd (nowhere (root_buckets about) (IsRoot about) (root_one about) (root_used about) old i x j m r.rooted.filled k.inside free lies blocked (subst (IsRoot about (old m)) one (k.flags, k.holds)))
 
@@ -348,14 +351,14 @@ module _ (S : Type 0) (about : About) where
           (λ (t : Has (k, y) both.roots). let q = both_there k y t in (q.0, stay k y q.1))
           a)
 
-      pub wins : Rule record { words = filled_words; homes = s.homes; views = set s.views id (catch v h (r.log ++ made ∷ []) v.busy grown) } × CaughtUp (made ∷ []) v (catch v h (r.log ++ made ∷ []) v.busy grown)
+      pub wins : Rule record { words = filled_words; homes = s.homes; views = set s.views id (catch v h (r.log ++ made ∷ []) v.busy grown) } × Caught plain (made ∷ []) v (catch v h (r.log ++ made ∷ []) v.busy grown)
       wins =
-          let same_nodes : SameNodes S about roots_of house_of Told (Plain about) s.words filled_words =
+          let same_nodes : SameNodes S about plain (Plain about) s.words filled_words =
           (length-set s.words word (word_of about.width 0 x), λ k low. get_or-set_other s.words word (suc k) (word_of about.width 0 x) 0 (λ z. absurd (omega arith))) in
-          let c = catches S about roots_of house_of Told (Plain about) s r id r.holder.0 v h filled_words (made ∷ []) v.busy grown e live r.holder.2
+          let c = catches S about plain (Plain about) s r id r.holder.0 v h filled_words (made ∷ []) v.busy grown e live r.holder.2
           (λ y a. ⊎_elim (λ (z : y ≡ made). ap (λ (w : Entry). w.caller) z) (λ (no : ⊥). absurd no) a) same_nodes legal_now
           (named_fresh about (h.known ++ v.known) r.log both.roots made x legal_now refl both_known long both_named) plain_now
-          (λ log ws nodes views k u kept legal at fits alive. plain_tells about log ws views k u kept at)
+          (λ log ws nodes views k u kept legal at fits alive. plain_sounds about log ws views k u kept at)
           (λ log ws nodes views k u kept legal at fits alive all. plain_houses about log ws nodes views k u kept at fits all)
           (λ k y a. inr (has_back (k, y) h.root.roots v.root.roots a)) in
           (c.0, c.1.0)

@@ -4,7 +4,7 @@ use Rattle.std.proofs.lemmas.Nat.{shr_high, mod_low}
 use Rattle.tree_shape.specs.Tree.{RootStands, slot}
 use Rattle.packed_word.specs.Word.{pair_of}
 use Rattle.pair_rule.specs.declared.sizes.About.{About}
-use Rattle.root_plain.specs.Probe.{IsSomeRoot}
+use Rattle.pair_rule.specs.Calls.{IsSomeRoot}
 
 stands_alone : (width slots left right : ℕ) (known : List (ℕ × ℕ)) → slots ≡ 2 → right < 2 ^ width → RootStands width slots known (pair_of width left right) (left ∷ right ∷ [])
 stands_alone width slots left right known two r = subst (λ (k : ℕ). RootStands width k known (pair_of width left right) (left ∷ right ∷ [])) (sym two)

@@ -1,5 +1,5 @@
 -- The plain rule is kept by the steps on nodes, and where passes are made, split and joined; and what it tells of a view.
-use Rattle.std.proofs.Common.{◌≡◌, ◌⊎◌, ℕ, zero, suc, ◌<◌, List, [], ◌∷◌, ◌++◌, set, get_or, false, Some, refl, sym, subst, inl, ⊎_elim, arith}
+use Rattle.std.proofs.Common.{◌≡◌, ◌⊎◌, ℕ, zero, suc, ◌<◌, List, [], ◌∷◌, ◌++◌, set, get_or, false, Some, sym, subst, inl, ⊎_elim, arith}
 use Rattle.std.proofs.lemmas.Nat.{pow_below}
 use mathlib.Core.Option.{some, some-injective}
 use lib.ListN.{get_elem?}
@@ -8,15 +8,14 @@ use Rattle.tdb_base.specs.History.{History, name_of}
 use Rattle.tdb_base.proofs.NameLemmas.{name-nil}
 use Rattle.pair_rule.specs.declared.view.View.{View}
 use Rattle.pair_rule.specs.declared.sizes.About.{About}
-use Rattle.pair_rule.specs.Laws.{InRange, IsAbout}
-use Rattle.pair_rule.specs.View.{Grown, left, right, both, newcomer, nobody}
+use Rattle.pair_rule.specs.View.{Grown, parent_view, child_view, joining_view, newcomer, nobody}
 use Rattle.pair_rule.specs.Paths.{root_buckets, size, Listed}
 use Rattle.pair_rule.specs.Rule.{Fits}
 use Rattle.pair_rule.specs.Rest.{FillsPaths}
 use Rattle.pair_rule.proofs.Lists.{has_front, has_back, has_either, each_set, each_snoc, not_there}
 use Rattle.pair_rule.proofs.Buckets.{bucket_below, stands}
 use Rattle.root_plain.specs.declared.root.Roots.{Roots}
-use Rattle.root_plain.specs.Plain.{no_roots, both_roots, sized, count, IsPlain, IsRoot, root_at, Plain, Told}
+use Rattle.root_plain.specs.Plain.{nothing_known, both_roots, IsPlain, IsRoot, root_at, Plain, LiesOnPaths}
 use Rattle.root_plain.specs.Words.{root_one, root_used}
 
 abbrev V : Type 0
@@ -33,47 +32,37 @@ pub plain_keeps : (about : About) (log : History) (ws : List ℕ) (views : List 
 plain_keeps about log ws views id v w p e g = with_roots about log ws views (set views id w) p
     (each_set (λ (j : ℕ) (u : V). Rooted about ws u) views id w p.roots (subst (λ (t : Roots). (k pair : ℕ) → Has (k, pair) t.roots → (k < size (root_buckets about)) × IsRoot about (root_at ws k) pair) (sym g.root) (p.roots id v e)))
 
-pub plain_forks : (about : About) (log : History) (ws : List ℕ) (views : List V) (id : ℕ) (v : V) → Plain about log ws views → get_elem? views id ≡ some v → Plain about log ws (set views id (left v) ++ right (λ t. t) v ∷ [])
-plain_forks about log ws views id v p e = with_roots about log ws views (set views id (left v) ++ right (λ t. t) v ∷ []) p
-    (each_snoc (λ (u : V). Rooted about ws u) (set views id (left v)) (right (λ t. t) v) (each_set (λ (j : ℕ) (u : V). Rooted about ws u) views id (left v) p.roots (p.roots id v e)) (p.roots id v e))
+pub plain_keeps_split : (about : About) (log : History) (ws : List ℕ) (views : List V) (id : ℕ) (v : V) → Plain about log ws views → get_elem? views id ≡ some v → Plain about log ws (set views id (parent_view v) ++ child_view (λ t. t) v ∷ [])
+plain_keeps_split about log ws views id v p e = with_roots about log ws views (set views id (parent_view v) ++ child_view (λ t. t) v ∷ []) p
+    (each_snoc (λ (u : V). Rooted about ws u) (set views id (parent_view v)) (child_view (λ t. t) v) (each_set (λ (j : ℕ) (u : V). Rooted about ws u) views id (parent_view v) p.roots (p.roots id v e)) (p.roots id v e))
 
 both_rooted : (about : About) (ws : List ℕ) (t u : Roots) (id pair : ℕ)
     → (Has (id, pair) t.roots → (id < size (root_buckets about)) × IsRoot about (root_at ws id) pair) → (Has (id, pair) u.roots → (id < size (root_buckets about)) × IsRoot about (root_at ws id) pair)
     → Has (id, pair) (t.roots ++ u.roots) → (id < size (root_buckets about)) × IsRoot about (root_at ws id) pair
 both_rooted about ws t u id pair p q h = ⊎_elim p q (has_either (id, pair) t.roots u.roots h)
 
-pub plain_merges : (about : About) (log : History) (ws : List ℕ) (views : List V) (nodes : ℕ → ℕ) (id other : ℕ) (v w : V) → Plain about log ws views → get_elem? views id ≡ some v → get_elem? views other ≡ some w → ¬ (other ≡ id)
-    → v.busy ≡ false → w.busy ≡ false → Fits about (λ h t. t.roots) log nodes v → Fits about (λ h t. t.roots) log nodes w → Plain about log ws (set (set views id (both both_roots v w)) other (nobody no_roots))
-plain_merges about log ws views nodes id other v w p e f apart idle rest fits fits_too = with_roots about log ws views (set (set views id (both both_roots v w)) other (nobody no_roots)) p
-    (each_set (λ (j : ℕ) (u : V). Rooted about ws u) (set views id (both both_roots v w)) other (nobody no_roots)
-    (each_set (λ (j : ℕ) (u : V). Rooted about ws u) views id (both both_roots v w) p.roots (λ k pair h. both_rooted about ws v.root w.root k pair (p.roots id v e k pair) (p.roots other w f k pair) h))
+pub plain_keeps_join : (about : About) (log : History) (ws : List ℕ) (views : List V) (nodes : ℕ → ℕ) (id other : ℕ) (v w : V) → Plain about log ws views → get_elem? views id ≡ some v → get_elem? views other ≡ some w → ¬ (other ≡ id)
+    → v.busy ≡ false → w.busy ≡ false → Fits about (λ h t. t.roots) log nodes v → Fits about (λ h t. t.roots) log nodes w → Plain about log ws (set (set views id (joining_view both_roots v w)) other (nobody nothing_known))
+plain_keeps_join about log ws views nodes id other v w p e f apart idle rest fits fits_too = with_roots about log ws views (set (set views id (joining_view both_roots v w)) other (nobody nothing_known)) p
+    (each_set (λ (j : ℕ) (u : V). Rooted about ws u) (set views id (joining_view both_roots v w)) other (nobody nothing_known)
+    (each_set (λ (j : ℕ) (u : V). Rooted about ws u) views id (joining_view both_roots v w) p.roots (λ k pair h. both_rooted about ws v.root w.root k pair (p.roots id v e k pair) (p.roots other w f k pair) h))
     (λ k pair h. absurd h))
 
--- what a table is about has its own width and number of flags
-pub own_about : (width flags : ℕ) (about : About) → IsAbout width flags sized count about → IsPlain about
-own_about width flags about is = record {
-  range = subst (λ (p : ℕ × ℕ). InRange p.0 p.1 sized about.sizes about.slots) (λ i. (sym is.width_is i, sym is.flags_are i)) is.range;
-  width_is = refl;
-  flags_are = refl;
-  root_words_are = is.root_words_are;
-  root_words_small = is.root_words_small;
-}
-
-pub plain_starts : (width flags : ℕ) (about : About) (ws : List ℕ) → IsAbout width flags sized count about → ((i : ℕ) → ◌≡◌ {A = ℕ} (get_or ws i 0) 0) → Plain about [] ws (newcomer no_roots about ∷ [])
-plain_starts width flags about ws is blank = record {
-  is_about = own_about width flags about is;
+pub plain_starts : (about : About) (ws : List ℕ) → IsPlain about → ((i : ℕ) → ◌≡◌ {A = ℕ} (get_or ws i 0) 0) → Plain about [] ws (newcomer nothing_known about ∷ [])
+plain_starts about ws is blank = record {
+  is_about = is;
   filled = λ i inside. inl (blank i);
   used = λ i inside used. absurd (used (blank i));
   names = λ v id n. cc (name-nil v, n);
   roots = first;
 }
   where
-    first : (j : ℕ) (v : V) → get_elem? (newcomer no_roots about ∷ []) j ≡ some v → Rooted about ws v
-    first zero v e = subst (Rooted about ws) (some-injective (newcomer no_roots about) v e) (λ id pair h. absurd h)
+    first : (j : ℕ) (v : V) → get_elem? (newcomer nothing_known about ∷ []) j ≡ some v → Rooted about ws v
+    first zero v e = subst (Rooted about ws) (some-injective (newcomer nothing_known about) v e) (λ id pair h. absurd h)
     first (suc j) v e = absurd (not_there v e)
 
-pub plain_tells : (about : About) (log : History) (ws : List ℕ) (views : List V) (id : ℕ) (v : V) → Plain about log ws views → get_elem? views id ≡ some v → Told about v
-plain_tells about log ws views id v p e = record {
+pub plain_sounds : (about : About) (log : History) (ws : List ℕ) (views : List V) (id : ℕ) (v : V) → Plain about log ws views → get_elem? views id ≡ some v → LiesOnPaths about v
+plain_sounds about log ws views id v p e = record {
   is_about = p.is_about;
   lies = λ i pair h.
       let k = p.roots id v e i pair h in
@@ -100,10 +89,10 @@ plain_houses about log ws nodes views id v p e fits all i pair h =
           (q.0, subst (λ (x : ℕ). Has (at, x) v.root.roots) (root_one about (root_at ws at) known.0 q.0 there.1 q.1) known.1, q.2);
     }
 
-pub told_same : (about : About) (v w : V) → w.root ≡ v.root → Told about v → Told about w
+pub told_same : (about : About) (v w : V) → w.root ≡ v.root → LiesOnPaths about v → LiesOnPaths about w
 told_same about v w same t = record { is_about = t.is_about; lies = λ id pair h. t.lies id pair (subst (λ (r : Roots). Has (id, pair) r.roots) same h) }
 
-pub ids_below : (about : About) (v : V) → Told about v → (id pair : ℕ) → Has (id, pair) v.root.roots → id < 4611686018427387904
+pub ids_below : (about : About) (v : V) → LiesOnPaths about v → (id pair : ℕ) → Has (id, pair) v.root.roots → id < 4611686018427387904
 unfolding size
 ids_below about v t id pair h = let l = (t.lies id pair h).inside in let small = pow_below about.sizes.roots 62 (let most = t.is_about.range.roots.1 in omega arith) in omega (arith, l, small)
 

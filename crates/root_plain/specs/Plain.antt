@@ -9,12 +9,14 @@ use Rattle.pair_rule.specs.declared.view.View.{View}
 use Rattle.pair_rule.specs.declared.sizes.Sizes.{Sizes}
 use Rattle.pair_rule.specs.declared.sizes.About.{About}
 use Rattle.pair_rule.specs.Laws.{IsAbout}
-use Rattle.pair_rule.specs.Paths.{Buckets, root_buckets, size, bucket, reach, IsPair}
+use Rattle.pair_rule.specs.Part.{Part}
+use Rattle.pair_rule.specs.Paths.{Buckets, root_buckets, size, bucket, reach, IsPair, Blocked}
+use Rattle.pair_rule.specs.Rest.{FillsPaths}
 use Rattle.pair_rule.specs.Rule.{Filled}
 use Rattle.root_plain.specs.declared.root.Roots.{Roots}
 
-abbrev pub no_roots : Roots
-no_roots = record { roots = [] }
+abbrev pub nothing_known : Roots
+nothing_known = record { roots = [] }
 
 abbrev pub both_roots : Roots → Roots → Roots
 both_roots t u = record { roots = t.roots ++ u.roots }
@@ -28,7 +30,7 @@ count sizes = 2 ^ sizes.roots
 
 -- what a plain store's table is about
 abbrev pub IsPlain : About → Type 0
-IsPlain about = IsAbout about.width about.flags sized count about
+IsPlain about = IsAbout sized count about
 
 -- the word has this pair, with these flags
 pub record Holds (about : About) (word pair flags : ℕ) : Type 0 where
@@ -67,7 +69,20 @@ pub record Lies (b : Buckets) (id pair : ℕ) : Type 0 where
   pub within : step < reach b
   pub here : bucket b pair step ≡ id
 
--- what the rule says of one view by itself
-pub record Told (about : About) (v : View Roots) : Type 0 where
+-- what the rule says of one view by itself: each root pair that it knows lies on its path
+pub record LiesOnPaths (about : About) (v : View Roots) : Type 0 where
   pub is_about : IsPlain about
   pub lies : (id pair : ℕ) → Has (id, pair) v.root.roots → Lies (root_buckets about) id pair
+
+-- what a plain root table gives to contracts
+abbrev pub plain : Part Roots
+plain = record {
+  sized = sized;
+  count = count;
+  roots = λ about h t. t.roots;
+  house = λ about map. FillsPaths (root_buckets about) map;
+  is_full = λ about map pair. Blocked (root_buckets about) map pair;
+  sound = LiesOnPaths;
+  split = λ t. t;
+  join = both_roots;
+}

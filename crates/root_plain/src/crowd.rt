@@ -1,6 +1,7 @@
 // Two to eight threads put the same roots and different ones into small tables, and what each saw is compared.
 ghost use Rattle.std.specs.Prelude.{◌≡◌, ◌<◌, ◌≤◌, All, IfOk};
-ghost use Rattle.root_plain.specs.Plays.{Rests};
+ghost use Rattle.pair_rule.specs.Rest.{AtRest};
+ghost use Rattle.root_plain.specs.Plain.{plain};
 
 use crate::Roots;
 use crate::tests::{Store, StorePass, put, store};
@@ -27,9 +28,9 @@ fn put_twelve(
     begins: u64,
     answers: &mut [Option<(u64, bool)>; 12],
 )
-    requires slots { store.now.table.about.slots ≡ 2 }
-    requires rest { Rests store.now.table.table.shared.table_id store.now.table.about pass.old }
-    ensures { Rests store.now.table.table.shared.table_id store.now.table.about pass.new }
+    requires slots { store.now.about.slots ≡ 2 }
+    requires rest { AtRest plain store.now pass.old }
+    ensures { AtRest plain store.now pass.new }
 {
     let mut steps = Steps::new(Silent);
     for turn in 0..12u64 {
@@ -40,9 +41,9 @@ fn put_twelve(
 
 // All callers put the roots, each in a thread of its own.
 fn put_at_once<H: Threads + Sync>(rt: &H, store: &Store, callers: &mut [Caller])
-    requires slots { store.now.table.about.slots ≡ 2 }
-    requires callers { All (λ c. Rests store.now.table.table.shared.table_id store.now.table.about c.pass) callers.old }
-    ensures { All (λ c. Rests store.now.table.table.shared.table_id store.now.table.about c.pass) callers.new }
+    requires slots { store.now.about.slots ≡ 2 }
+    requires callers { All (λ c. AtRest plain store.now c.pass) callers.old }
+    ensures { All (λ c. AtRest plain store.now c.pass) callers.new }
 {
     let count = callers.len();
     if count > 0 {
@@ -51,9 +52,9 @@ fn put_at_once<H: Threads + Sync>(rt: &H, store: &Store, callers: &mut [Caller])
             callers,
             count,
             &|_, caller: &mut Caller|
-                requires slots { store.now.table.about.slots ≡ 2 }
-                requires rest { Rests store.now.table.table.shared.table_id store.now.table.about caller.now.pass }
-                ensures { Rests store.entry.now.table.table.shared.table_id store.entry.now.table.about caller.exit.now.pass }
+                requires slots { store.now.about.slots ≡ 2 }
+                requires rest { AtRest plain store.now caller.now.pass }
+                ensures { AtRest plain store.entry.now caller.exit.now.pass }
             {
                 put_twelve(store, &mut caller.pass, caller.begins, &mut caller.answers);
             },
@@ -68,9 +69,9 @@ fn split_callers(
     pass: &mut StorePass,
     count: u64,
 ) -> Result<Vec<Caller>, NoMemory>
-    requires { Rests store.now.table.table.shared.table_id store.now.table.about pass.old }
-    ensures rest { Rests store.now.table.table.shared.table_id store.now.table.about pass.new }
-    ensures callers { IfOk result (λ v. All (λ c. Rests store.now.table.table.shared.table_id store.now.table.about c.pass) v.items) }
+    requires { AtRest plain store.now pass.old }
+    ensures rest { AtRest plain store.now pass.new }
+    ensures callers { IfOk result (λ v. All (λ c. AtRest plain store.now c.pass) v.items) }
 {
     let table = &store.table;
     let mut callers = Vec::new(alloc);
@@ -87,8 +88,8 @@ fn split_callers(
 
 // The passes of all callers are joined into one: how many names they gave.
 fn join_callers(store: &Store, pass: &mut StorePass, callers: Vec<Caller>) -> u64
-    requires rest { Rests store.now.table.table.shared.table_id store.now.table.about pass.old }
-    requires callers { All (λ c. Rests store.now.table.table.shared.table_id store.now.table.about c.pass) callers.items }
+    requires rest { AtRest plain store.now pass.old }
+    requires callers { All (λ c. AtRest plain store.now c.pass) callers.items }
 {
     for caller in callers {
         let Caller { pass: other, .. } = caller;

@@ -1,9 +1,12 @@
+//! A name's root is found by its identifier.
 ghost use Rattle.std.specs.Prelude.{◌≡◌, ℕ, ◌^◌, ◌<◌, ◌≤◌, ◌↔◌, IsTrue, [], ◌∷◌, false, Some, IfSome, IfNone};
 ghost use Rattle.packed_word.specs.Word.{pair_of};
 ghost use Rattle.tree_shape.specs.Tree.{Has};
 ghost use Rattle.tdb_base.specs.History.{Vector, name_of};
-ghost use Rattle.pair_rule.specs.Rest.{view};
-ghost use Rattle.root_plain.specs.Plays.{Rests, CaughtUp, Called, IsNoName};
+ghost use Rattle.pair_rule.specs.Calls.{Called, IsNoName};
+ghost use Rattle.pair_rule.specs.Plays.{Caught};
+ghost use Rattle.pair_rule.specs.Rest.{AtRest, view};
+ghost use Rattle.root_plain.specs.Plain.{plain};
 
 use crate::plays::Wanted;
 use crate::root::PlainRoot;
@@ -30,12 +33,12 @@ pub fn find_id<const W: u32, const F: u32>(
     pass: &mut Pass<PlainRoot<W, F>, W, F>,
     id: u64,
 ) -> Option<(u64, u64)>
-    requires rest { Rests nodes.now.table.table.shared.table_id nodes.now.table.about pass.old }
-    ensures rest { Rests nodes.now.table.table.shared.table_id nodes.now.table.about pass.new }
-    ensures parts { IfSome result (λ pair. (pair.0 < 2 ^ W) × (pair.1 < 2 ^ W)) }
-    ensures found { IfSome result (λ pair. Called false id (pair_of W pair.0 pair.1) (view pass.old) (view pass.new)) }
+    requires rest { AtRest plain nodes.now pass.old }
+    ensures rest { AtRest plain nodes.now pass.new }
+    ensures parts { IfSome result (λ pair. (pair.0 < 2 ^ nodes.now.about.width) × (pair.1 < 2 ^ nodes.now.about.width)) }
+    ensures found { IfSome result (λ pair. Called plain false id (pair_of nodes.now.about.width pair.0 pair.1) (view pass.old) (view pass.new)) }
     ensures no_name { IfNone result (IsNoName id (view pass.new).seen) }
-    ensures no_call { IfNone result (CaughtUp [] (view pass.old) (view pass.new)) }
+    ensures no_call { IfNone result (Caught plain [] (view pass.old) (view pass.new)) }
     ensures buffers { pass.new ≡ record pass.old { seat = pass.new.seat } }
 {
     let table = nodes.table();
@@ -57,12 +60,12 @@ pub fn root_pair<const W: u32, const F: u32>(
     pass: &mut Pass<PlainRoot<W, F>, W, F>,
     id: u64,
 ) -> (u64, u64)
-    requires rest { Rests nodes.now.table.table.shared.table_id nodes.now.table.about pass.old }
+    requires rest { AtRest plain nodes.now pass.old }
     requires named { (vector : Vector) × (name_of (view pass.old).seen vector ≡ Some id) }
-    ensures rest { Rests nodes.now.table.table.shared.table_id nodes.now.table.about pass.new }
-    ensures parts { (result.0 < 2 ^ W) × (result.1 < 2 ^ W) }
-    ensures root { Has (id, pair_of W result.0 result.1) (view pass.old).root.roots }
-    ensures no_call { CaughtUp [] (view pass.old) (view pass.new) }
+    ensures rest { AtRest plain nodes.now pass.new }
+    ensures parts { (result.0 < 2 ^ nodes.now.about.width) × (result.1 < 2 ^ nodes.now.about.width) }
+    ensures root { Has (id, pair_of nodes.now.about.width result.0 result.1) (view pass.old).root.roots }
+    ensures no_call { Caught plain [] (view pass.old) (view pass.new) }
     ensures buffers { pass.new ≡ record pass.old { seat = pass.new.seat } }
 {
     let word = look(nodes.table(), pass, id, &Wanted::Nothing);

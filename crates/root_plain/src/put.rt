@@ -1,12 +1,19 @@
-ghost use Rattle.std.specs.Prelude.{◌≡◌, ◌≢◌, ℕ, ◌+◌, ◌*◌, ◌^◌, ◌<◌, [], ◌∷◌, true, length, IfOk, OnErr, MatchOption, option_map};
-ghost use Rattle.packed_word.specs.Word.{IsLayout, pair_of};
+//! A root is put, or found, along its pair's path.
+ghost use Rattle.std.specs.Prelude.{◌≡◌, ◌≢◌, ℕ, ◌+◌, ◌*◌, ◌^◌, ◌<◌, [], ◌∷◌, true, length};
+ghost use Rattle.std.specs.Prelude.{IfOk, OnErr, IfSome, IfNone, MatchOption, option_map};
+ghost use Rattle.packed_word.specs.Word.{pair_of};
 ghost use Rattle.tree_shape.specs.Tree.{Has, RootStands};
 ghost use Rattle.tdb_base.specs.History.{Vector};
 ghost use Rattle.tdb_base.specs.Fakes.{counted};
-ghost use Rattle.pair_rule.specs.Paths.{root_buckets, size, bucket, reach, Passed, Listed, Blocked};
-ghost use Rattle.pair_rule.specs.Rest.{view};
-ghost use Rattle.root_plain.specs.Plays.{Rests, CaughtUp, Called, Shows, wants, call};
-ghost use Rattle.root_plain.specs.Probe.{SameBuffers, IsSomeRoot, HasOther, Passes, Along};
+ghost use Rattle.pair_nodes.specs.Probe.{IsNodeWord, pair_of_word};
+ghost use Rattle.pair_rule.specs.Calls.{call, Called, IsSomeRoot, KeepsBuffers};
+ghost use Rattle.pair_rule.specs.Part.{IsTable};
+ghost use Rattle.pair_rule.specs.Paths.{root_buckets, size, reach, Passed, Listed, Blocked};
+ghost use Rattle.pair_rule.specs.Plays.{Caught};
+ghost use Rattle.pair_rule.specs.Rest.{AtRest, view};
+ghost use Rattle.root_plain.specs.Plain.{plain};
+ghost use Rattle.root_plain.specs.Plays.{Shows, wants};
+ghost use Rattle.root_plain.specs.Probe.{HasOther, IsNext, Passes, Along};
 ghost use Rattle.root_plain.specs.declared.plays.Wanted.TheVariants.{Pair};
 
 use crate::plays::Wanted;
@@ -18,43 +25,39 @@ use pair_rule::{PairTable, Pass, RootsFull};
 use probe_path::{Path, Walk};
 use tdb_base::{Ledger, Steps};
 
-// The pair as one number.
-#[inline]
-fn packed<const W: u32, const F: u32>(left: u64, right: u64) -> u64
-    requires layout { IsLayout W F }
-    requires parts { (left < 2 ^ W) × (right < 2 ^ W) }
-    ensures same { result ≡ pair_of W left right }
-    ensures small { result < 2 ^ (2 * W) }
-{
-    Layout::<W, F>::pack(left, right) - (1 << 63)
-}
+// The present bit.
+const PRESENT: u64 = 1 << 63;
 
-// Looks at the bucket `at` of the pair's path, whose earlier buckets are known to have other pairs, and puts the pair there if it is empty. 0 says that it did; any other answer is the word that stands there.
+// Looks at the bucket `at`, the next one of the path of the word's pair, and puts the word there if it is empty. Answers
+// the word that stands there, if it wasn't.
 #[inline]
 fn settle<const W: u32, const F: u32>(
     table: &PairTable<PlainRoot<W, F>, W, F>,
     pass: &mut Pass<PlainRoot<W, F>, W, F>,
     at: u64,
-    left: u64,
-    right: u64,
-) -> u64
-    requires rest { Rests table.now.table.shared.table_id table.now.about pass.old }
+    word: u64,
+) -> Option<u64>
+    requires rest { AtRest plain table.now pass.old }
+    requires word { IsNodeWord table.now.about word }
     requires inside { at < size (root_buckets table.now.about) }
-    requires parts { (left < 2 ^ W) × (right < 2 ^ W) }
-    requires passed { let path = root_buckets table.now.about in (i : ℕ) × (i < reach path) × (bucket path (pair_of W left right) i ≡ at) × Passed path (Listed (view pass.old).root.roots) (pair_of W left right) i }
-    requires stands { IsSomeRoot table.now.about (view pass.old).known (pair_of W left right) }
-    ensures rest { Rests table.now.table.shared.table_id table.now.about pass.new }
-    ensures put { result ≡ 0 → Called true at (pair_of W left right) (view pass.old) (view pass.new) }
-    ensures found { result ≢ 0 → Shows (wants (Pair (pair_of W left right))) at result (view pass.old) (view pass.new) }
-    ensures buffers { SameBuffers pass.old pass.new }
+    requires passed { IsNext (root_buckets table.now.about) (view pass.old).root.roots (pair_of_word word) at }
+    requires stands { IsSomeRoot table.now.about (view pass.old).known (pair_of_word word) }
+    ensures rest { AtRest plain table.now pass.new }
+    ensures put { IfNone result (Called plain true at (pair_of_word word) (view pass.old) (view pass.new)) }
+    ensures used { IfSome result (λ found. found ≢ 0) }
+    ensures found { IfSome result (λ found. Shows (wants (Pair (pair_of_word word))) at found (view pass.old) (view pass.new)) }
+    ensures buffers { KeepsBuffers pass.old pass.new }
 {
-    let wanted = Wanted::Pair(packed::<W, F>(left, right));
+    let wanted = Wanted::Pair(word - PRESENT);
     let found = look(table, pass, at, &wanted);
-    if found == 0 {
-        claim(table, pass, at, left, right)
-    } else {
-        found
+    if found != 0 {
+        return Some(found);
     }
+    let lost = claim(table, pass, at, word);
+    if lost != 0 {
+        return Some(lost);
+    }
+    None
 }
 
 // The same, answering the bucket and whether the pair was put, or `None` where another pair stands.
@@ -63,75 +66,82 @@ fn visit<const W: u32, const F: u32>(
     table: &PairTable<PlainRoot<W, F>, W, F>,
     pass: &mut Pass<PlainRoot<W, F>, W, F>,
     at: u64,
-    left: u64,
-    right: u64,
+    word: u64,
 ) -> Option<(u64, bool)>
-    requires rest { Rests table.now.table.shared.table_id table.now.about pass.old }
+    requires store { IsTable W F plain table.now }
+    requires rest { AtRest plain table.now pass.old }
+    requires word { IsNodeWord table.now.about word }
     requires inside { at < size (root_buckets table.now.about) }
-    requires parts { (left < 2 ^ W) × (right < 2 ^ W) }
-    requires passed { let path = root_buckets table.now.about in (i : ℕ) × (i < reach path) × (bucket path (pair_of W left right) i ≡ at) × Passed path (Listed (view pass.old).root.roots) (pair_of W left right) i }
-    requires stands { IsSomeRoot table.now.about (view pass.old).known (pair_of W left right) }
-    ensures rest { Rests table.now.table.shared.table_id table.now.about pass.new }
-    ensures told { MatchOption result (CaughtUp [] (view pass.old) (view pass.new) × HasOther at (pair_of W left right) (view pass.new)) (λ a. Called a.1 a.0 (pair_of W left right) (view pass.old) (view pass.new)) }
-    ensures buffers { SameBuffers pass.old pass.new }
+    requires passed { IsNext (root_buckets table.now.about) (view pass.old).root.roots (pair_of_word word) at }
+    requires stands { IsSomeRoot table.now.about (view pass.old).known (pair_of_word word) }
+    ensures rest { AtRest plain table.now pass.new }
+    ensures outcome { MatchOption result
+        (Caught plain [] (view pass.old) (view pass.new) × HasOther at (pair_of_word word) (view pass.new))
+        (λ a. Called plain a.1 a.0 (pair_of_word word) (view pass.old) (view pass.new)) }
+    ensures buffers { KeepsBuffers pass.old pass.new }
 {
-    let found = settle(table, pass, at, left, right);
-    if found == 0 {
-        Some((at, true))
-    } else if Layout::<W, F>::same_pair(found, left, right) {
+    let Some(found) = settle(table, pass, at, word) else {
+        return Some((at, true));
+    };
+    if Layout::<W, F>::without_flags(found) == word {
         Some((at, false))
     } else {
         None
     }
 }
 
-// Visits the buckets of one line of the pair's path.
+// Visits the buckets of one line of the path of the word's pair.
 #[inline]
 fn walk_line<const W: u32, const F: u32>(
     table: &PairTable<PlainRoot<W, F>, W, F>,
     pass: &mut Pass<PlainRoot<W, F>, W, F>,
     walk: &Walk<W>,
-    left: u64,
-    right: u64,
+    word: u64,
 ) -> Option<(u64, bool)>
-    requires rest { Rests table.now.table.shared.table_id table.now.about pass.old }
-    requires parts { (left < 2 ^ W) × (right < 2 ^ W) }
-    requires walk { Along table.now.about (pair_of W left right) walk.now.course }
+    requires store { IsTable W F plain table.now }
+    requires rest { AtRest plain table.now pass.old }
+    requires word { IsNodeWord table.now.about word }
+    requires walk { Along table.now.about (pair_of_word word) walk.now.course }
     requires line { walk.now.passed < walk.now.course.lines }
-    requires passed { Passed (root_buckets table.now.about) (Listed (view pass.old).root.roots) (pair_of W left right) (8 * walk.now.passed) }
-    requires stands { IsSomeRoot table.now.about (view pass.old).known (pair_of W left right) }
-    ensures rest { Rests table.now.table.shared.table_id table.now.about pass.new }
-    ensures told { MatchOption result (Passes table.now.about (pair_of W left right) (8 * walk.now.passed + 8) (view pass.old) (view pass.new)) (λ a. Called a.1 a.0 (pair_of W left right) (view pass.old) (view pass.new)) }
-    ensures buffers { SameBuffers pass.old pass.new }
+    requires passed { Passed (root_buckets table.now.about) (Listed (view pass.old).root.roots) (pair_of_word word)
+        (8 * walk.now.passed) }
+    requires stands { IsSomeRoot table.now.about (view pass.old).known (pair_of_word word) }
+    ensures rest { AtRest plain table.now pass.new }
+    ensures outcome { MatchOption result
+        (Passes table.now.about (pair_of_word word) (8 * walk.now.passed + 8) (view pass.old) (view pass.new))
+        (λ a. Called plain a.1 a.0 (pair_of_word word) (view pass.old) (view pass.new)) }
+    ensures buffers { KeepsBuffers pass.old pass.new }
 {
     for i in 0..8 {
-        if let Some(found) = visit(table, pass, walk.bucket(i), left, right) {
+        if let Some(found) = visit(table, pass, walk.bucket(i), word) {
             return Some(found);
         }
     }
     None
 }
 
-// Visits the buckets of the pair's path, line by line.
+// Visits the buckets of the path of the word's pair, line by line.
 #[inline]
 fn walk_path<const W: u32, const F: u32>(
     table: &PairTable<PlainRoot<W, F>, W, F>,
     pass: &mut Pass<PlainRoot<W, F>, W, F>,
-    left: u64,
-    right: u64,
+    word: u64,
 ) -> Option<(u64, bool)>
-    requires rest { Rests table.now.table.shared.table_id table.now.about pass.old }
-    requires parts { (left < 2 ^ W) × (right < 2 ^ W) }
-    requires stands { IsSomeRoot table.now.about (view pass.old).known (pair_of W left right) }
-    ensures rest { Rests table.now.table.shared.table_id table.now.about pass.new }
-    ensures told { MatchOption result (Passes table.now.about (pair_of W left right) (reach (root_buckets table.now.about)) (view pass.old) (view pass.new)) (λ a. Called a.1 a.0 (pair_of W left right) (view pass.old) (view pass.new)) }
-    ensures buffers { SameBuffers pass.old pass.new }
+    requires store { IsTable W F plain table.now }
+    requires rest { AtRest plain table.now pass.old }
+    requires word { IsNodeWord table.now.about word }
+    requires stands { IsSomeRoot table.now.about (view pass.old).known (pair_of_word word) }
+    ensures rest { AtRest plain table.now pass.new }
+    ensures outcome { MatchOption result
+        (Passes table.now.about (pair_of_word word) (reach (root_buckets table.now.about)) (view pass.old) (view pass.new))
+        (λ a. Called plain a.1 a.0 (pair_of_word word) (view pass.old) (view pass.new)) }
+    ensures buffers { KeepsBuffers pass.old pass.new }
 {
     let sizes = table.sizes();
-    let path = Path::<W>::new(packed::<W, F>(left, right), sizes.roots, sizes.probe);
+    let path = Path::<W>::new(word - PRESENT, sizes.roots, sizes.probe);
     let mut walk = path.walk();
     for line in 0..path.len() / 8 {
-        if let Some(found) = walk_line(table, pass, &walk, left, right) {
+        if let Some(found) = walk_line(table, pass, &walk, word) {
             return Some(found);
         }
         walk.advance();
@@ -139,11 +149,13 @@ fn walk_path<const W: u32, const F: u32>(
     None
 }
 
-/// Gives the vector with the root `(left, right)` a name, or finds its name: its identifier, below `2^roots`, and whether it is new.
+/// Gives the vector with the root `(left, right)` a name, or finds its name: its identifier, below `2^roots`, and whether
+/// it is new.
 ///
-/// The parts are below `2^W`, and the pair is the root of some vector in the nodes that the pass knows. The answer is one call of the table's history, made at
-/// one atomic step; afterwards the pass has seen that history up to this call. It counts one step. `RootsFull` comes only where each bucket of the pair's path
-/// has another root, which stays so; no call is made then. It waits for nobody and takes no memory.
+/// The parts are below `2^W`, and the pair is the root of some vector in the nodes that the pass knows. The answer is one
+/// call of the table's history, made at one atomic step; afterwards the pass has seen that history up to this call. It
+/// counts one step. `RootsFull` comes only where each bucket of the pair's path has another root, which stays so; no call
+/// is made then. It waits for nobody and takes no memory.
 pub fn put_root<L: Ledger, const W: u32, const F: u32>(
     nodes: &Nodes<PlainRoot<W, F>, W, F>,
     pass: &mut Pass<PlainRoot<W, F>, W, F>,
@@ -151,21 +163,25 @@ pub fn put_root<L: Ledger, const W: u32, const F: u32>(
     right: u64,
     steps: &mut Steps<L>,
 ) -> Result<(u64, bool), RootsFull>
-    requires rest { Rests nodes.now.table.table.shared.table_id nodes.now.table.about pass.old }
-    requires left { left < 2 ^ W }
-    requires right { right < 2 ^ W }
-    requires stands { IsSomeRoot nodes.now.table.about (view pass.old).known (pair_of W left right) }
-    ensures rest { Rests nodes.now.table.table.shared.table_id nodes.now.table.about pass.new }
-    ensures entry { let about = nodes.now.table.about in IfOk result (λ a. (vector : Vector) → RootStands about.width about.slots (view pass.old).known (pair_of W left right) vector → length vector ≡ about.slots
-        → CaughtUp (call (view pass.old).number a.1 vector a.0 ∷ []) (view pass.old) (view pass.new)) }
-    ensures root { IfOk result (λ a. Has (a.0, pair_of W left right) (view pass.new).root.roots) }
-    ensures full { OnErr result (Blocked (root_buckets nodes.now.table.about) (view pass.new).root.roots (pair_of W left right)) }
-    ensures no_call { OnErr result (CaughtUp [] (view pass.old) (view pass.new)) }
-    ensures buffers { SameBuffers pass.old pass.new }
+    requires rest { AtRest plain nodes.now pass.old }
+    requires left { left < 2 ^ nodes.now.about.width }
+    requires right { right < 2 ^ nodes.now.about.width }
+    requires stands { IsSomeRoot nodes.now.about (view pass.old).known (pair_of nodes.now.about.width left right) }
+    ensures rest { AtRest plain nodes.now pass.new }
+    ensures entry { IfOk result (λ a. let about = nodes.now.about in let pair = pair_of about.width left right in
+        (vector : Vector) → RootStands about.width about.slots (view pass.old).known pair vector → length vector ≡ about.slots
+        → Caught plain (call (view pass.old).number a.1 vector a.0 ∷ []) (view pass.old) (view pass.new)) }
+    ensures root { IfOk result (λ a. Has (a.0, pair_of nodes.now.about.width left right) (view pass.new).root.roots) }
+    ensures full { OnErr result (Blocked (root_buckets nodes.now.about) (view pass.new).root.roots
+        (pair_of nodes.now.about.width left right)) }
+    ensures no_call { OnErr result (Caught plain [] (view pass.old) (view pass.new)) }
+    ensures buffers { KeepsBuffers pass.old pass.new }
     ensures tick { L.count steps.new ≡ option_map counted (L.count steps.old) }
 {
     steps.tick();
-    match walk_path(nodes.table(), pass, left, right) {
+    let table = nodes.table();
+    let word = Layout::<W, F>::pack(left, right);
+    match walk_path(table, pass, word) {
         Some(found) => Ok(found),
         None => Err(RootsFull),
     }

@@ -2,19 +2,19 @@
 ghost use Rattle.std.specs.Prelude.{◌≡◌, ◌≢◌, ℕ, ◌+◌, ◌^◌, ◌<◌, ◌≤◌, true, [], length};
 ghost use mathlib.Core.Option.{none};
 ghost use Rattle.atomic_table.specs.Table.{Allows, step};
-ghost use Rattle.packed_word.specs.Word.{pair_of};
-ghost use Rattle.tree_shape.specs.Tree.{RootStands};
-ghost use Rattle.tdb_base.specs.History.{Vector};
-ghost use Rattle.pair_rule.specs.Paths.{root_buckets, size, bucket, reach, Passed, Listed};
+ghost use Rattle.pair_nodes.specs.Probe.{IsNodeWord, pair_of_word};
+ghost use Rattle.pair_rule.specs.Calls.{Called, IsSomeRoot};
+ghost use Rattle.pair_rule.specs.Paths.{root_buckets, size};
+ghost use Rattle.root_plain.specs.Probe.{IsNext};
 ghost use Rattle.pair_rule.specs.Plays.{first_root};
-ghost use Rattle.pair_rule.specs.Rest.{view};
-ghost use Rattle.root_plain.specs.Plays.{Rests, CaughtUp, Called, Shows, wants, sought};
+ghost use Rattle.pair_rule.specs.Rest.{AtRest, view};
+ghost use Rattle.root_plain.specs.Plain.{plain};
+ghost use Rattle.root_plain.specs.Plays.{Shows, wants, sought};
 ghost use Rattle.root_plain.specs.declared.plays.Wanted.TheVariants.{Pair};
 
 use crate::plays::{Asks, Claiming, Seeking, Wanted};
 use crate::root::{PlainRoot, Roots};
 use atomic_table::{Seat, Shared, TableRule};
-use packed_word::Layout;
 use pair_rule::{About, NodeRule, PairTable, Pass, View};
 use std::marker::Brand;
 
@@ -52,46 +52,45 @@ pub(crate) fn look<const W: u32, const F: u32>(
     at: u64,
     wanted: &Wanted,
 ) -> u64
-    requires rest { Rests table.now.table.shared.table_id table.now.about pass.old }
+    requires rest { AtRest plain table.now pass.old }
     requires inside { at < size (root_buckets table.now.about) }
-    ensures rest { Rests table.now.table.shared.table_id table.now.about pass.new }
+    ensures rest { AtRest plain table.now pass.new }
     ensures shows { Shows (wants wanted.now) at result (view pass.old) (view pass.new) }
     ensures tree { pass.new ≡ record pass.old { seat = pass.new.seat } }
 {
     let sizes = table.sizes();
-    let word = root_word(sizes.nodes, at);
+    let place = root_word(sizes.nodes, at);
     load_asked::<Brand, NodeRule<PlainRoot<W, F>, W, F>>(
-        &table.table().shared,
+        table.shared(),
         &mut pass.seat,
-        word,
+        place,
         wanted,
     )
 }
 
-// Puts a pair into the bucket `at`, the one of this step of the pair's path, if it is empty; answers the word that was there.
+// Puts the word of a pair into the bucket `at`, the one of this step of the pair's path, if it is empty; answers the
+// word that was there.
 #[inline]
 pub(crate) fn claim<const W: u32, const F: u32>(
     table: &PairTable<PlainRoot<W, F>, W, F>,
     pass: &mut Pass<PlainRoot<W, F>, W, F>,
     at: u64,
-    left: u64,
-    right: u64,
+    word: u64,
 ) -> u64
-    requires rest { Rests table.now.table.shared.table_id table.now.about pass.old }
+    requires rest { AtRest plain table.now pass.old }
+    requires word { IsNodeWord table.now.about word }
     requires inside { at < size (root_buckets table.now.about) }
-    requires parts { (left < 2 ^ W) × (right < 2 ^ W) }
-    requires passed { let path = root_buckets table.now.about in (i : ℕ) × (i < reach path) × (bucket path (pair_of W left right) i ≡ at) × Passed path (Listed (view pass.old).root.roots) (pair_of W left right) i }
-    requires stands { let about = table.now.about in (vector : Vector) × RootStands about.width about.slots (view pass.old).known (pair_of W left right) vector × (length vector ≡ about.slots) }
-    ensures rest { Rests table.now.table.shared.table_id table.now.about pass.new }
-    ensures won { result ≡ 0 → Called true at (pair_of W left right) (view pass.old) (view pass.new) }
-    ensures lost { result ≢ 0 → Shows (wants (Pair (pair_of W left right))) at result (view pass.old) (view pass.new) }
+    requires passed { IsNext (root_buckets table.now.about) (view pass.old).root.roots (pair_of_word word) at }
+    requires stands { IsSomeRoot table.now.about (view pass.old).known (pair_of_word word) }
+    ensures rest { AtRest plain table.now pass.new }
+    ensures won { result ≡ 0 → Called plain true at (pair_of_word word) (view pass.old) (view pass.new) }
+    ensures lost { result ≢ 0 → Shows (wants (Pair (pair_of_word word))) at result (view pass.old) (view pass.new) }
     ensures tree { pass.new ≡ record pass.old { seat = pass.new.seat; names_count = pass.new.names_count } }
 {
     let sizes = table.sizes();
-    let word = root_word(sizes.nodes, at);
-    let new = Layout::<W, F>::pack(left, right);
-    let shared = &table.table().shared;
-    let found = shared.compare_exchange::<Claiming>(&mut pass.seat, word, 0, new);
+    let place = root_word(sizes.nodes, at);
+    let shared = table.shared();
+    let found = shared.compare_exchange::<Claiming>(&mut pass.seat, place, 0, word);
     if found == 0 {
         pass.names_count += 1;
     }

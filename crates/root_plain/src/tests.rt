@@ -1,8 +1,8 @@
 // Stores of two slots, whose roots are the vectors themselves. The buckets are those of hashes that were computed by hand.
 ghost use Rattle.std.specs.Prelude.{◌≡◌, ◌^◌, ◌<◌, ◌≤◌, IfOk, MatchOption, Some};
 ghost use Rattle.tdb_base.specs.History.{Vector, name_of};
-ghost use Rattle.pair_rule.specs.Rest.{view};
-ghost use Rattle.root_plain.specs.Plays.{Rests};
+ghost use Rattle.pair_rule.specs.Rest.{AtRest, view};
+ghost use Rattle.root_plain.specs.Plain.{plain};
 
 use crate::{PlainRoot, find_id, put_root, root_pair};
 use pair_nodes::Nodes;
@@ -20,8 +20,8 @@ pub(crate) type StorePass = Pass<PlainRoot<16, 8>, 16, 8>;
 // A store of vectors of two slots, with `2^roots` buckets for roots, and its pass.
 pub(crate) fn store(alloc: Global, roots: u32) -> Result<(Store, StorePass), NoMemory>
     requires { (3 ≤ roots) × (roots ≤ 24) }
-    ensures slots { IfOk result (λ made. made.0.table.about.slots ≡ 2) }
-    ensures rest { IfOk result (λ made. Rests made.0.table.table.shared.table_id made.0.table.about made.1) }
+    ensures slots { IfOk result (λ made. made.0.about.slots ≡ 2) }
+    ensures rest { IfOk result (λ made. AtRest plain made.0 made.1) }
 {
     let sizes = Sizes {
         nodes: 3,
@@ -41,10 +41,10 @@ pub(crate) fn put<L: Ledger>(
     right: u64,
     steps: &mut Steps<L>,
 ) -> Option<(u64, bool)>
-    requires slots { store.now.table.about.slots ≡ 2 }
-    requires rest { Rests store.now.table.table.shared.table_id store.now.table.about pass.old }
+    requires slots { store.now.about.slots ≡ 2 }
+    requires rest { AtRest plain store.now pass.old }
     requires parts { (left < 2 ^ 16) × (right < 2 ^ 16) }
-    ensures rest { Rests store.now.table.table.shared.table_id store.now.table.about pass.new }
+    ensures rest { AtRest plain store.now pass.new }
     ensures named { MatchOption result (Unit {0}) (λ a. (vector : Vector) × (name_of (view pass.new).seen vector ≡ Some a.0)) }
 {
     match put_root(store, pass, left, right, steps) {
@@ -108,10 +108,10 @@ fn put_three(
     Option<(u64, bool)>,
     Option<(u64, bool)>,
 )
-    requires slots { store.now.table.about.slots ≡ 2 }
-    requires rest { Rests store.now.table.table.shared.table_id store.now.table.about pass.old }
+    requires slots { store.now.about.slots ≡ 2 }
+    requires rest { AtRest plain store.now pass.old }
     requires small { first < 2 ^ 15 }
-    ensures rest { Rests store.now.table.table.shared.table_id store.now.table.about pass.new }
+    ensures rest { AtRest plain store.now pass.new }
 {
     let mut steps = Steps::new(Silent);
     let a = put(store, pass, 0, first, &mut steps);
@@ -142,9 +142,9 @@ fn two_threads_agree(rt: HostRuntime) -> Result<(), Fail> {
             ),
             StorePass,
         )
-            requires slots { store.table.about.slots ≡ 2 }
-            requires rest { Rests store.table.table.shared.table_id store.table.about first }
-            ensures { Rests store.table.table.shared.table_id store.table.about result.1 }
+            requires slots { store.about.slots ≡ 2 }
+            requires rest { AtRest plain store first }
+            ensures { AtRest plain store result.1 }
         {
             let found = put_three(&store, &mut first, 1);
             (found, first)
@@ -157,9 +157,9 @@ fn two_threads_agree(rt: HostRuntime) -> Result<(), Fail> {
             ),
             StorePass,
         )
-            requires slots { store.table.about.slots ≡ 2 }
-            requires rest { Rests store.table.table.shared.table_id store.table.about second }
-            ensures { Rests store.table.table.shared.table_id store.table.about result.1 }
+            requires slots { store.about.slots ≡ 2 }
+            requires rest { AtRest plain store second }
+            ensures { AtRest plain store result.1 }
         {
             let found = put_three(&store, &mut second, 2);
             (found, second)

@@ -2,12 +2,13 @@ use Rattle.std.proofs.Common.{subst, sym}
 use Rattle.std.specs.Prelude.{All}
 use Rattle.std.proofs.lemmas.List.Elements.{All-push}
 use Rattle.root_plain.specs.declared.crowd.Caller.{Caller}
-use Rattle.root_plain.specs.Plays.{Rests}
+use Rattle.pair_rule.specs.Rest.{AtRest}
+use Rattle.root_plain.specs.Plain.{plain}
 use Rattle.root_plain.proofs.crowd.split_callers.Goals as goal
 
 pub loop-number-preserved : goal.loop-number-preserved
 loop-number-preserved c =
-    let P = λ (x : Caller). Rests c.args.store.now.table.table.shared.table_id c.args.store.now.table.about x.pass in
+    let P = λ (x : Caller). AtRest plain c.args.store.now x.pass in
     record {
       rest = c.split.ensures.rest;
       callers = subst (λ l. All P l) (sym c.in_ok-push.ensures.items) (All-push P c.loop-number.callers.items _ c.loop-number.invariant.callers c.in_ok-pass.ensures.new_rest);

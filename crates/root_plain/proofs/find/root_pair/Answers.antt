@@ -1,21 +1,32 @@
-use Rattle.std.proofs.Common.{arith, subst}
-use Rattle.root_plain.specs.Plays.{Rests}
+use Rattle.std.proofs.Math.Nat.{mod-lt}
+use Rattle.std.proofs.lemmas.Nat.{pow_pos}
+use Rattle.packed_word.specs.Word.{pair_of, left_of, right_of}
+use Rattle.tree_shape.specs.Tree.{Has}
+use Rattle.pair_rule.proofs.Widths.{below_part}
+use Rattle.std.proofs.Common.{arith, ℕ, refl, sym, subst}
+use Rattle.pair_rule.specs.Rest.{AtRest, view}
+use Rattle.root_plain.specs.Plain.{plain}
 use Rattle.root_plain.proofs.Probing.{name_bucket, found_there}
 use Rattle.root_plain.proofs.find.root_pair.Goals as goal
 
 pub look-word-requires : goal.look-word-requires
 look-word-requires g c =
-    let t = c.args.nodes.now.table in
-    (omega arith, (omega arith, rw c.table.ensures (c.requires.rest, name_bucket _ t.about c.args.pass.now c.args.id c.requires.named.0 c.requires.rest c.requires.named.1)))
+    (omega arith, (omega arith, rw c.table.ensures.table (c.requires.rest, name_bucket c.args.nodes.now c.args.pass.now c.args.id c.requires.named.0 c.requires.rest c.requires.named.1)))
 
 pub returns-clause-root : goal.returns-clause-root
 returns-clause-root g c =
-    let t = c.args.nodes.now.table in
-    let rest = subst (λ t. Rests t.table.shared.table_id t.about c.look-word.new.pass) c.table.ensures c.look-word.ensures.rest in
-    rw (c.left.ensures, c.right.ensures) (found_there _ t.about c.args.pass.now c.look-word.new.pass g.row.W c.args.id c.look-word.result c.requires.named.0 c.requires.rest rest t.width c.requires.named.1 c.look-word.ensures.shows).1
+    let rest = subst (λ t. AtRest plain t c.look-word.new.pass) c.table.ensures.table c.look-word.ensures.rest in
+    let is = c.table.ensures.store in
+    let there = (found_there c.args.nodes.now c.args.pass.now c.look-word.new.pass g.row.W c.args.id c.look-word.result c.requires.named.0 c.requires.rest rest is.width_is c.requires.named.1 c.look-word.ensures.shows).1 in
+    rw (c.left.ensures, c.right.ensures) (subst (λ (w : ℕ). Has (c.args.id, pair_of w (left_of g.row.W c.look-word.result) (right_of g.row.W c.look-word.result)) (view c.args.pass.now).root.roots) (sym is.width_is) there)
+
+pub returns-clause-parts : goal.returns-clause-parts
+returns-clause-parts g c =
+    let is = c.table.ensures.store in
+    let store = c.args.nodes.now in
+    (below_part _ store refl is c.left.result (rw c.left.ensures (mod-lt _ (pow_pos g.row.W))), below_part _ store refl is c.right.result (rw c.right.ensures (mod-lt _ (pow_pos g.row.W))))
 
 pub returns-clause-no_call : goal.returns-clause-no_call
 returns-clause-no_call g c =
-    let t = c.args.nodes.now.table in
-    let rest = subst (λ t. Rests t.table.shared.table_id t.about c.look-word.new.pass) c.table.ensures c.look-word.ensures.rest in
-    (found_there _ t.about c.args.pass.now c.look-word.new.pass g.row.W c.args.id c.look-word.result c.requires.named.0 c.requires.rest rest t.width c.requires.named.1 c.look-word.ensures.shows).0
+    let rest = subst (λ t. AtRest plain t c.look-word.new.pass) c.table.ensures.table c.look-word.ensures.rest in
+    (found_there c.args.nodes.now c.args.pass.now c.look-word.new.pass g.row.W c.args.id c.look-word.result c.requires.named.0 c.requires.rest rest c.table.ensures.store.width_is c.requires.named.1 c.look-word.ensures.shows).0

@@ -1,25 +1,34 @@
-use Rattle.std.proofs.Common.{subst}
-use Rattle.packed_word.specs.Word.{pair_of}
+use Rattle.std.proofs.Common.{subst, sym, refl, ◌∙◌, arith}
 use Rattle.pair_rule.specs.Rest.{view}
 use Rattle.pair_rule.specs.declared.sizes.About.{About}
+use Rattle.pair_rule.proofs.Widths.{layout_of}
+use Rattle.pair_nodes.specs.Probe.{pair_of_word}
 use Rattle.root_plain.specs.Plain.{IsRoot}
-use Rattle.root_plain.proofs.RootPasses.{plain_about}
-use Rattle.root_plain.proofs.Probing.{read_same, same_read, shows_other, shows_pair}
+use Rattle.root_plain.proofs.Probing.{flagless, shows_other, shows_pair}
 use Rattle.root_plain.proofs.put.visit.Goals as goal
 
-pub returns-then-same_pair-clause-told : goal.returns-then-same_pair-clause-told
-returns-then-same_pair-clause-told g c =
-    let t = c.args.table.now in
-    let n = c.settle-found.result in
-    let is = plain_about _ t.about c.args.pass.now c.requires.rest in
-    shows_pair (pair_of g.row.W c.args.left c.args.right) c.args.at n (view c.args.pass.now) (view c.settle-found.new.pass) (c.settle-found.ensures.found c.if-found-eq0.false) c.if-found-eq0.false
-    (λ x h. read_same t.about g.row.W n is t.width c.args.left c.args.right c.requires.parts.0 c.requires.parts.1 x (subst (λ (y : About). IsRoot y n x) c.requires.rest.seat.about_is h) (c.same_pair.ensures.0 c.if-same_pair.true))
+pub without_flags-requires : goal.without_flags-requires
+without_flags-requires g c = layout_of _ c.args.table.now refl c.requires.store
 
-pub returns-else-same_pair-clause-told : goal.returns-else-same_pair-clause-told
-returns-else-same_pair-clause-told g c =
-    let t = c.args.table.now in
-    let n = c.settle-found.result in
-    let is = plain_about _ t.about c.args.pass.now c.requires.rest in
-    let pair = pair_of g.row.W c.args.left c.args.right in
-    shows_other pair c.args.at n (view c.args.pass.now) (view c.settle-found.new.pass) (c.settle-found.ensures.found c.if-found-eq0.false) c.if-found-eq0.false
-    (λ h. cc (c.if-same_pair.false, c.same_pair.ensures.1 (same_read t.about g.row.W n is t.width c.args.left c.args.right c.requires.parts.0 c.requires.parts.1 (subst (λ (y : About). IsRoot y n pair) c.requires.rest.seat.about_is h))))
+pub returns-then-without_flags-word-clause-outcome : goal.returns-then-without_flags-word-clause-outcome
+returns-then-without_flags-word-clause-outcome g c =
+    let about = c.args.table.now.about in
+    let n = c.in-Some.found in
+    let e = c.in-Some.ensures in
+    let is = c.requires.store in
+    shows_pair (pair_of_word c.args.word) c.args.at n (view c.args.pass.now) (view c.settle.new.pass) e.found e.used
+    (λ x h.
+        let r = flagless about g.row.W n is.is_about is.width_is x c.without_flags.result (subst (λ (y : About). IsRoot y n x) c.requires.rest.seat.about_is h) c.without_flags.ensures in
+        omega (arith, r, c.if-without_flags-word.true))
+
+pub returns-else-without_flags-word-clause-outcome : goal.returns-else-without_flags-word-clause-outcome
+returns-else-without_flags-word-clause-outcome g c =
+    let about = c.args.table.now.about in
+    let pair = pair_of_word c.args.word in
+    let n = c.in-Some.found in
+    let e = c.in-Some.ensures in
+    let is = c.requires.store in
+    shows_other pair c.args.at n (view c.args.pass.now) (view c.settle.new.pass) e.found e.used
+    (λ h.
+        let r = flagless about g.row.W n is.is_about is.width_is pair c.without_flags.result (subst (λ (y : About). IsRoot y n pair) c.requires.rest.seat.about_is h) c.without_flags.ensures in
+        absurd (c.if-without_flags-word.false (r ∙ sym c.requires.word.whole)))

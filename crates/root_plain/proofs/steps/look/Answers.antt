@@ -1,33 +1,35 @@
-use Rattle.std.proofs.Common.{refl, subst, ℕ}
+use Rattle.std.proofs.Common.{refl, subst, sym, ap, ◌∙◌, ◌≤◌, ℕ}
+use Rattle.pair_rule.specs.declared.sizes.Sizes.{Sizes}
 use Rattle.pair_rule.specs.Rest.{view}
 use Rattle.root_plain.specs.Plays.{Shows, wants}
-use Rattle.root_plain.proofs.RootPasses.{plain_about, bucket_small, word_of_bucket, word_inside, bucket_of_word, look_allowed, looked_rests}
+use Rattle.root_plain.proofs.RootPasses.{bucket_small, word_of_bucket, word_inside, bucket_of_word, look_allowed, looked_rests}
 use Rattle.root_plain.proofs.steps.look.Goals as goal
 
-pub root_word-word-requires : goal.root_word-word-requires
-root_word-word-requires g c =
-    let t = c.args.table.now in
-    (rw c.sizes-sizes.ensures t.nodes.1, bucket_small t.about c.args.at (plain_about _ t.about c.args.pass.now c.requires.rest) c.requires.inside)
+pub root_word-place-requires : goal.root_word-place-requires
+root_word-place-requires g c =
+    let is = c.requires.rest.seat.is_about in
+    (subst (λ (s : Sizes). s.nodes ≤ 25) (sym c.sizes-sizes.ensures.sizes) is.range.most_nodes, bucket_small c.args.table.now.about c.args.at is c.requires.inside)
 
 pub load_asked-requires-clause-seat : goal.load_asked-requires-clause-seat
 load_asked-requires-clause-seat g c =
-    let t = c.args.table.now in
-    let here = word_of_bucket t.about c.sizes-sizes.result.now c.args.at c.root_word-word.result c.sizes-sizes.ensures c.root_word-word.ensures in
-    rw c.table.ensures (c.requires.rest.seat.table_is, word_inside t.about c.args.at c.root_word-word.result _ (plain_about _ t.about c.args.pass.now c.requires.rest) here c.requires.inside t.wide)
+    let about = c.args.table.now.about in
+    let e = c.shared.ensures in
+    let here = word_of_bucket about c.sizes-sizes.result.now c.args.at c.root_word-place.result c.sizes-sizes.ensures.sizes c.root_word-place.ensures in
+    (c.requires.rest.seat.table_is ∙ sym e.table, word_inside about c.args.at c.root_word-place.result _ c.requires.rest.seat.is_about here c.requires.inside (ap (λ t. t.words) e.table ∙ e.store.words_are))
 
 pub load_asked-requires-clause-rule : goal.load_asked-requires-clause-rule
 load_asked-requires-clause-rule g c =
-    let t = c.args.table.now in
-    let here = word_of_bucket t.about c.sizes-sizes.result.now c.args.at c.root_word-word.result c.sizes-sizes.ensures c.root_word-word.ensures in
-    rw c.table.ensures (look_allowed _ t.about t.table.shared.key c.args.pass.now (wants c.args.wanted.now) _ c.args.at c.root_word-word.result c.requires.rest t.key here c.requires.inside)
+    let about = c.args.table.now.about in
+    let here = word_of_bucket about c.sizes-sizes.result.now c.args.at c.root_word-place.result c.sizes-sizes.ensures.sizes c.root_word-place.ensures in
+    look_allowed c.args.table.now c.shared.result.now.key c.args.pass.now (wants c.args.wanted.now) _ c.args.at c.root_word-place.result c.requires.rest c.shared.ensures.key here c.requires.inside
 
 pub returns-clause-shows : goal.returns-clause-shows
 returns-clause-shows g c =
-    let t = c.args.table.now in
-    let here = word_of_bucket t.about c.sizes-sizes.result.now c.args.at c.root_word-word.result c.sizes-sizes.ensures c.root_word-word.ensures in
+    let about = c.args.table.now.about in
+    let here = word_of_bucket about c.sizes-sizes.result.now c.args.at c.root_word-place.result c.sizes-sizes.ensures.sizes c.root_word-place.ensures in
     subst (λ (k : ℕ). Shows (wants c.args.wanted.now) k c.load_asked.result (view c.args.pass.now) c.load_asked.new.seat.me.0)
-    (bucket_of_word (view c.args.pass.now) t.about c.args.at c.root_word-word.result c.requires.rest.seat.about_is here) c.load_asked.ensures.told.1
+    (bucket_of_word (view c.args.pass.now) about c.args.at c.root_word-place.result c.requires.rest.seat.about_is here) c.load_asked.ensures.told.1
 
 pub returns-clause-rest : goal.returns-clause-rest
 returns-clause-rest g c =
-    looked_rests _ c.args.table.now.about c.args.pass.now _ (wants c.args.wanted.now) _ c.load_asked.result c.requires.rest c.load_asked.ensures.seat c.load_asked.ensures.told.0 c.load_asked.ensures.told.1 refl refl refl refl refl refl
+    looked_rests c.args.table.now c.args.pass.now _ (wants c.args.wanted.now) _ c.load_asked.result c.requires.rest c.load_asked.ensures.seat c.load_asked.ensures.told.0 c.load_asked.ensures.told.1 refl refl refl refl refl refl

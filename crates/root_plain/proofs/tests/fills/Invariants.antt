@@ -1,9 +1,10 @@
 use Rattle.std.proofs.Common.{◌≡◌}
-use Rattle.root_plain.specs.Plays.{Rests}
+use Rattle.pair_rule.specs.Rest.{AtRest}
+use Rattle.root_plain.specs.Plain.{plain}
 use Rattle.root_plain.proofs.tests.fills.Given as goal
 
 abbrev pub invariant-loop-right : goal.invariant-loop-right
 invariant-loop-right g l = record {
   slots : l.store.table.about.slots ≡ 2;
-  rest : Rests l.store.table.table.shared.table_id l.store.table.about l.pass;
+  rest : AtRest plain l.store l.pass;
 }
