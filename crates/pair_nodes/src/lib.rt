@@ -3,9 +3,11 @@
 
 mod nodes;
 mod probe;
+mod roots;
 mod steps;
 
 pub use nodes::Nodes;
+pub use roots::RootTable;
 
 #[cfg(test)]
 mod tests;

@@ -3,11 +3,10 @@ use Rattle.std.proofs.Common.{◌≡◌, ◌≢◌, ◌⊎◌, ℕ, ◌+◌, ◌
 use mathlib.Core.Logic.{dite}
 use native.Mathlib.Decide.{ℕ_discrete}
 use Rattle.std.proofs.lemmas.Nat.{shr_split}
-use Rattle.tree_shape.specs.Tree.{Has, IsNaming, RootStands}
-use Rattle.tree_shape.proofs.Trees.{one_vector, one_root}
+use Rattle.tree_shape.specs.Tree.{Has}
 use Rattle.tdb_base.specs.History.{Vector, History, name_of}
 use Rattle.tdb_base.specs.Legal.{Extends}
-use Rattle.tdb_base.proofs.NameLemmas.{names-differ, keeps-names}
+use Rattle.tdb_base.proofs.NameLemmas.{keeps-names}
 use Rattle.packed_word.specs.Word.{IsPresent, left_of, right_of, pair_of, word_of}
 use Rattle.packed_word.proofs.Numbers.{has_parts}
 use Rattle.pair_rule.specs.declared.view.View.{View}
@@ -28,6 +27,7 @@ use Rattle.pair_rule.specs.Calls.{IsNoName, Called}
 use Rattle.pair_rule.specs.Plays.{Caught}
 use Rattle.pair_rule.proofs.Calling.{caught_still, called_then}
 use Rattle.root_plain.specs.Plain.{plain}
+use Rattle.root_plain.specs.Refused.{roots_naming}
 use Rattle.root_plain.specs.Plays.{wants, Shows}
 use Rattle.root_plain.specs.Probe.{HasOther, Passes, Along}
 
@@ -142,27 +142,6 @@ shows_each about width id n v w is wide about_is s used = ⊎_elim
     (λ (z : n ≡ 0). absurd (used z))
     (λ (t : (x : ℕ) × IsRoot v.about n x). subst (λ (x : ℕ). Called plain false id x v w) (sym (pair_read about width n is wide t.0 (subst (λ (y : About). IsRoot y n t.0) about_is t.1))) (s.found t.0 t.1 refl))
     s.word
-
--- the root pairs that a pass knows name identifiers: one pair each, and each pair's is one
-pub roots_naming : (store : Store) (p : PassOf Roots) → AtRest plain store p → IsNaming (view p).root.roots
-roots_naming store p r =
-    let s = r.seat.sound in
-    let known = (view p).known in
-    let is_plain = s.root_sound.is_about in
-    let v = view p in
-    record {
-      one_pair = λ id x y a b.
-          let m = s.named.only id x a in
-          let o = s.named.only id y b in
-          let one = names-differ v.about.flags v.seen s.legal m.0 o.0 id m.1 o.1 in
-          one_root v.about.width v.about.slots known s.nodes.naming x y o.0 (subst (λ (u : Vector). RootStands v.about.width v.about.slots known x u) one m.2) o.2;
-      one_index = λ i j x a b.
-          let m = s.named.only i x a in
-          let o = s.named.only j x b in
-          let one = one_vector v.about.width v.about.slots known s.nodes.naming x m.0 o.0 is_plain.range.least_slots m.3 o.3 m.2 o.2 in
-          let same : Some i ≡ Some j = sym m.1 ∙ (ap (λ (u : Vector). name_of v.seen u) one ∙ o.1) in
-          cc same;
-    }
 
 -- a load at a name's bucket, where nothing is wanted
 module _ (store : Store) (p q : PassOf Roots) (width id n : ℕ) (u : Vector) (rp : AtRest plain store p) (rq : AtRest plain store q) (wide : store.about.width ≡ width)

@@ -4,3 +4,4 @@ pub mod Laws
 pub mod Plays
 pub mod Probe
 pub mod PassLaws
+pub mod Refused

@@ -1,10 +1,7 @@
 //! A name's root is found by its identifier.
-ghost use Rattle.std.specs.Prelude.{◌≡◌, ℕ, ◌^◌, ◌<◌, ◌≤◌, ◌↔◌, IsTrue, [], ◌∷◌, false, Some, IfSome, IfNone};
-ghost use Rattle.packed_word.specs.Word.{pair_of};
-ghost use Rattle.tree_shape.specs.Tree.{Has};
+ghost use Rattle.std.specs.Prelude.{◌≡◌, ◌^◌, ◌<◌, ◌≤◌, ◌↔◌, IsTrue, Some, MatchOption};
 ghost use Rattle.tdb_base.specs.History.{Vector, name_of};
-ghost use Rattle.pair_rule.specs.Calls.{Called, IsNoName};
-ghost use Rattle.pair_rule.specs.Plays.{Caught};
+ghost use Rattle.pair_nodes.specs.Roots.{RootFound, RootUnknown, RootRead};
 ghost use Rattle.pair_rule.specs.Rest.{AtRest, view};
 ghost use Rattle.root_plain.specs.Plain.{plain};
 
@@ -34,12 +31,8 @@ pub fn find_id<const W: u32, const F: u32>(
     id: u64,
 ) -> Option<(u64, u64)>
     requires rest { AtRest plain nodes.now pass.old }
-    ensures rest { AtRest plain nodes.now pass.new }
-    ensures parts { IfSome result (λ pair. (pair.0 < 2 ^ nodes.now.about.width) × (pair.1 < 2 ^ nodes.now.about.width)) }
-    ensures found { IfSome result (λ pair. Called plain false id (pair_of nodes.now.about.width pair.0 pair.1) (view pass.old) (view pass.new)) }
-    ensures no_name { IfNone result (IsNoName id (view pass.new).seen) }
-    ensures no_call { IfNone result (Caught plain [] (view pass.old) (view pass.new)) }
-    ensures buffers { pass.new ≡ record pass.old { seat = pass.new.seat } }
+    ensures { MatchOption result (RootUnknown plain nodes.now id pass.old pass.new)
+        (λ parts. RootFound plain nodes.now id parts pass.old pass.new) }
 {
     let table = nodes.table();
     let sizes = table.sizes();
@@ -62,11 +55,7 @@ pub fn root_pair<const W: u32, const F: u32>(
 ) -> (u64, u64)
     requires rest { AtRest plain nodes.now pass.old }
     requires named { (vector : Vector) × (name_of (view pass.old).seen vector ≡ Some id) }
-    ensures rest { AtRest plain nodes.now pass.new }
-    ensures parts { (result.0 < 2 ^ nodes.now.about.width) × (result.1 < 2 ^ nodes.now.about.width) }
-    ensures root { Has (id, pair_of nodes.now.about.width result.0 result.1) (view pass.old).root.roots }
-    ensures no_call { Caught plain [] (view pass.old) (view pass.new) }
-    ensures buffers { pass.new ≡ record pass.old { seat = pass.new.seat } }
+    ensures { RootRead plain nodes.now id result pass.old pass.new }
 {
     let word = look(nodes.table(), pass, id, &Wanted::Nothing);
     (Layout::<W, F>::left(word), Layout::<W, F>::right(word))

@@ -10,10 +10,12 @@ mod plays;
 mod put;
 mod root;
 mod steps;
+mod table;
 
 pub use find::{find_id, root_pair};
 pub use put::put_root;
 pub use root::{PlainRoot, Roots};
+pub use table::PlainTable;
 
 #[cfg(test)]
 mod crowd;

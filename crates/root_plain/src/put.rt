@@ -1,14 +1,13 @@
 //! A root is put, or found, along its pair's path.
-ghost use Rattle.std.specs.Prelude.{◌≡◌, ◌≢◌, ℕ, ◌+◌, ◌*◌, ◌^◌, ◌<◌, [], ◌∷◌, true, length};
+ghost use Rattle.std.specs.Prelude.{◌≡◌, ◌≢◌, ℕ, ◌+◌, ◌*◌, ◌^◌, ◌<◌, [], true};
 ghost use Rattle.std.specs.Prelude.{IfOk, OnErr, IfSome, IfNone, MatchOption, option_map};
 ghost use Rattle.packed_word.specs.Word.{pair_of};
-ghost use Rattle.tree_shape.specs.Tree.{Has, RootStands};
-ghost use Rattle.tdb_base.specs.History.{Vector};
 ghost use Rattle.tdb_base.specs.Fakes.{counted};
 ghost use Rattle.pair_nodes.specs.Probe.{IsNodeWord, pair_of_word};
-ghost use Rattle.pair_rule.specs.Calls.{call, Called, IsSomeRoot, KeepsBuffers};
+ghost use Rattle.pair_nodes.specs.Roots.{RootPut, RootRefused};
+ghost use Rattle.pair_rule.specs.Calls.{Called, IsSomeRoot, KeepsBuffers};
 ghost use Rattle.pair_rule.specs.Part.{IsTable};
-ghost use Rattle.pair_rule.specs.Paths.{root_buckets, size, reach, Passed, Listed, Blocked};
+ghost use Rattle.pair_rule.specs.Paths.{root_buckets, size, reach, Passed, Listed};
 ghost use Rattle.pair_rule.specs.Plays.{Caught};
 ghost use Rattle.pair_rule.specs.Rest.{AtRest, view};
 ghost use Rattle.root_plain.specs.Plain.{plain};
@@ -167,15 +166,10 @@ pub fn put_root<L: Ledger, const W: u32, const F: u32>(
     requires left { left < 2 ^ nodes.now.about.width }
     requires right { right < 2 ^ nodes.now.about.width }
     requires stands { IsSomeRoot nodes.now.about (view pass.old).known (pair_of nodes.now.about.width left right) }
-    ensures rest { AtRest plain nodes.now pass.new }
-    ensures entry { IfOk result (λ a. let about = nodes.now.about in let pair = pair_of about.width left right in
-        (vector : Vector) → RootStands about.width about.slots (view pass.old).known pair vector → length vector ≡ about.slots
-        → Caught plain (call (view pass.old).number a.1 vector a.0 ∷ []) (view pass.old) (view pass.new)) }
-    ensures root { IfOk result (λ a. Has (a.0, pair_of nodes.now.about.width left right) (view pass.new).root.roots) }
-    ensures full { OnErr result (Blocked (root_buckets nodes.now.about) (view pass.new).root.roots
-        (pair_of nodes.now.about.width left right)) }
-    ensures no_call { OnErr result (Caught plain [] (view pass.old) (view pass.new)) }
-    ensures buffers { KeepsBuffers pass.old pass.new }
+    ensures put { IfOk result (λ a. RootPut plain nodes.now (pair_of nodes.now.about.width left right) a.0 a.1
+        pass.old pass.new) }
+    ensures refused { OnErr result (RootRefused plain nodes.now (pair_of nodes.now.about.width left right)
+        pass.old pass.new) }
     ensures tick { L.count steps.new ≡ option_map counted (L.count steps.old) }
 {
     steps.tick();

@@ -13,20 +13,16 @@ pub look-word-requires : goal.look-word-requires
 look-word-requires g c =
     (omega arith, (omega arith, rw c.table.ensures.table (c.requires.rest, name_bucket c.args.nodes.now c.args.pass.now c.args.id c.requires.named.0 c.requires.rest c.requires.named.1)))
 
-pub returns-clause-root : goal.returns-clause-root
-returns-clause-root g c =
-    let rest = subst (λ t. AtRest plain t c.look-word.new.pass) c.table.ensures.table c.look-word.ensures.rest in
-    let is = c.table.ensures.store in
-    let there = (found_there c.args.nodes.now c.args.pass.now c.look-word.new.pass g.row.W c.args.id c.look-word.result c.requires.named.0 c.requires.rest rest is.width_is c.requires.named.1 c.look-word.ensures.shows).1 in
-    rw (c.left.ensures, c.right.ensures) (subst (λ (w : ℕ). Has (c.args.id, pair_of w (left_of g.row.W c.look-word.result) (right_of g.row.W c.look-word.result)) (view c.args.pass.now).root.roots) (sym is.width_is) there)
-
-pub returns-clause-parts : goal.returns-clause-parts
-returns-clause-parts g c =
-    let is = c.table.ensures.store in
+pub returns : goal.returns
+returns g c =
     let store = c.args.nodes.now in
-    (below_part _ store refl is c.left.result (rw c.left.ensures (mod-lt _ (pow_pos g.row.W))), below_part _ store refl is c.right.result (rw c.right.ensures (mod-lt _ (pow_pos g.row.W))))
-
-pub returns-clause-no_call : goal.returns-clause-no_call
-returns-clause-no_call g c =
     let rest = subst (λ t. AtRest plain t c.look-word.new.pass) c.table.ensures.table c.look-word.ensures.rest in
-    (found_there c.args.nodes.now c.args.pass.now c.look-word.new.pass g.row.W c.args.id c.look-word.result c.requires.named.0 c.requires.rest rest c.table.ensures.store.width_is c.requires.named.1 c.look-word.ensures.shows).0
+    let is = c.table.ensures.store in
+    let there = found_there store c.args.pass.now c.look-word.new.pass g.row.W c.args.id c.look-word.result c.requires.named.0 c.requires.rest rest is.width_is c.requires.named.1 c.look-word.ensures.shows in
+    rw (c.left.ensures, c.right.ensures) (record {
+      rest = rest;
+      parts_are = (below_part _ store refl is _ (mod-lt _ (pow_pos g.row.W)), below_part _ store refl is _ (mod-lt _ (pow_pos g.row.W)));
+      root = subst (λ (w : ℕ). Has (c.args.id, pair_of w (left_of g.row.W c.look-word.result) (right_of g.row.W c.look-word.result)) (view c.args.pass.now).root.roots) (sym is.width_is) there.1;
+      no_call = there.0;
+      buffers = c.look-word.ensures.tree;
+    })

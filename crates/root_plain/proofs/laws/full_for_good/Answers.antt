@@ -1,4 +1,4 @@
-use Rattle.root_plain.proofs.PassLaws.{never_named}
+use Rattle.root_plain.specs.Refused.{never_named}
 use Rattle.root_plain.proofs.laws.full_for_good.Goals as goal
 
 pub returns : goal.returns

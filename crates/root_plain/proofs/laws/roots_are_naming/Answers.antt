@@ -1,4 +1,4 @@
-use Rattle.root_plain.proofs.Probing.{roots_naming}
+use Rattle.root_plain.specs.Refused.{roots_naming}
 use Rattle.root_plain.proofs.laws.roots_are_naming.Goals as goal
 
 pub returns : goal.returns

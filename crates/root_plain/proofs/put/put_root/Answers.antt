@@ -39,19 +39,29 @@ same_pair P width wide left right word same is p =
     let one : pair_of_word word ≡ pair_of wide left right = omega (arith, is, e) in
     subst P one p
 
-pub returns-in-Some-clause-entry : goal.returns-in-Some-clause-entry
-returns-in-Some-clause-entry g c =
+pub returns-in-Some-clause-put : goal.returns-in-Some-clause-put
+returns-in-Some-clause-put g c =
     let e = c.table-table.ensures in
-    let rest = subst (λ t. AtRest plain t c.walk_path.new.pass) e.table c.in-Some.ensures.rest in
-    called_entry plain c.args.nodes.now c.args.pass.now c.walk_path.new.pass c.in-Some.found.1 c.in-Some.found.0 _ c.requires.rest rest
-    (same_pair (λ x. Called plain c.in-Some.found.1 c.in-Some.found.0 x (view c.args.pass.now) (view c.walk_path.new.pass)) g.row.W _ c.args.left c.args.right c.pack-word.result e.store.width_is c.pack-word.ensures.number c.in-Some.ensures.outcome)
+    let a = c.in-Some.found in
+    let p = c.args.pass.now in
+    let q = c.walk_path.new.pass in
+    let rest = subst (λ t. AtRest plain t q) e.table c.in-Some.ensures.rest in
+    let number = c.pack-word.ensures.number in
+    record {
+      rest = rest;
+      entry = called_entry plain c.args.nodes.now p q a.1 a.0 _ c.requires.rest rest
+          (same_pair (λ x. Called plain a.1 a.0 x (view p) (view q)) g.row.W _ c.args.left c.args.right c.pack-word.result e.store.width_is number c.in-Some.ensures.outcome);
+      root = same_pair (λ x. Has (a.0, x) (view q).root.roots) g.row.W _ c.args.left c.args.right c.pack-word.result e.store.width_is number c.in-Some.ensures.outcome.root;
+      buffers = c.in-Some.ensures.buffers;
+    }
 
-pub returns-in-Some-clause-root : goal.returns-in-Some-clause-root
-returns-in-Some-clause-root g c =
-    same_pair (λ x. Has (c.in-Some.found.0, x) (view c.walk_path.new.pass).root.roots) g.row.W _ c.args.left c.args.right c.pack-word.result c.table-table.ensures.store.width_is c.pack-word.ensures.number c.in-Some.ensures.outcome.root
-
-pub returns-in-None-clause-full : goal.returns-in-None-clause-full
-returns-in-None-clause-full g c =
+pub returns-in-None-clause-refused : goal.returns-in-None-clause-refused
+returns-in-None-clause-refused g c =
     let e = c.table-table.ensures in
-    same_pair (λ x. Blocked (root_buckets c.args.nodes.now.about) (view c.walk_path.new.pass).root.roots x) g.row.W _ c.args.left c.args.right c.pack-word.result e.store.width_is c.pack-word.ensures.number
-    (rw (← e.table) c.in-None.ensures.outcome.passed)
+    let q = c.walk_path.new.pass in record {
+      rest = subst (λ t. AtRest plain t q) e.table c.in-None.ensures.rest;
+      no_call = c.in-None.ensures.outcome.caught;
+      full = same_pair (λ x. Blocked (root_buckets c.args.nodes.now.about) (view q).root.roots x) g.row.W _ c.args.left c.args.right c.pack-word.result e.store.width_is c.pack-word.ensures.number
+          (rw (← e.table) c.in-None.ensures.outcome.passed);
+      buffers = c.in-None.ensures.buffers;
+    }

@@ -1,0 +1,62 @@
+-- What the calls on a store's roots leave of a pass, whatever its root table is.
+use Rattle.std.specs.Prelude.{◌≡◌, ℕ, ◌^◌, ◌<◌, [], ◌∷◌, Bool, false, None, length}
+use Rattle.packed_word.specs.Word.{pair_of}
+use Rattle.tree_shape.specs.Tree.{Has, IsPart, RootStands}
+use Rattle.tdb_base.specs.History.{Vector, name_of}
+use Rattle.pair_rule.specs.declared.pass.PassOf.{PassOf}
+use Rattle.pair_rule.specs.Part.{Store, Part, root_pairs}
+use Rattle.pair_rule.specs.Rest.{AtRest, view}
+use Rattle.pair_rule.specs.Plays.{Caught}
+use Rattle.pair_rule.specs.Calls.{call, Called, IsNoName, KeepsBuffers}
+
+-- two numbers are the parts of a pair
+abbrev pub AreParts : Store → ℕ × ℕ → Type 0
+AreParts store parts = (parts.0 < 2 ^ store.about.width) × (parts.1 < 2 ^ store.about.width)
+
+-- the pair of two parts
+abbrev pub pair_in : Store → ℕ × ℕ → ℕ
+pair_in store parts = pair_of store.about.width parts.0 parts.1
+
+module _ {T : Type 0} (part : Part T) (store : Store) where
+  -- the pair's vector was named by one call, or its name was found
+  pub record RootPut (pair id : ℕ) (fresh : Bool) (old new : PassOf T) : Type 0 where
+    pub rest : AtRest part store new
+    pub entry : (vector : Vector) → RootStands store.about.width store.about.slots (view old).known pair vector → length vector ≡ store.about.slots
+        → Caught part (call (view old).number fresh vector id ∷ []) (view old) (view new)
+    pub root : Has (id, pair) (root_pairs part (view new))
+    pub buffers : KeepsBuffers old new
+
+  -- there is no place for the pair, and no call was made
+  pub record RootRefused (pair : ℕ) (old new : PassOf T) : Type 0 where
+    pub rest : AtRest part store new
+    pub no_call : Caught part [] (view old) (view new)
+    pub full : part.is_full store.about (root_pairs part (view new)) pair
+    pub buffers : KeepsBuffers old new
+
+  -- the identifier is some vector's, whose root has these parts: one call found it
+  pub record RootFound (id : ℕ) (parts : ℕ × ℕ) (old new : PassOf T) : Type 0 where
+    pub rest : AtRest part store new
+    pub parts_are : AreParts store parts
+    pub called : Called part false id (pair_in store parts) (view old) (view new)
+    pub buffers : new ≡ record old { seat = new.seat }
+
+  -- the identifier is that of no name that the pass has then seen, and no call was made
+  pub record RootUnknown (id : ℕ) (old new : PassOf T) : Type 0 where
+    pub rest : AtRest part store new
+    pub no_call : Caught part [] (view old) (view new)
+    pub no_name : IsNoName id (view new).seen
+    pub buffers : new ≡ record old { seat = new.seat }
+
+  -- the root of the identifier has these parts, and no call was made
+  pub record RootRead (id : ℕ) (parts : ℕ × ℕ) (old new : PassOf T) : Type 0 where
+    pub rest : AtRest part store new
+    pub parts_are : AreParts store parts
+    pub root : Has (id, pair_in store parts) (root_pairs part (view old))
+    pub no_call : Caught part [] (view old) (view new)
+    pub buffers : new ≡ record old { seat = new.seat }
+
+-- where there is no place for a root, its vector has no name in any history that is seen later
+abbrev pub FullForGood : {T : Type 0} → Part T → Type 0
+FullForGood {T} part = (store : Store) (p q : PassOf T) (pair : ℕ) (v : Vector) → AtRest part store p → AtRest part store q
+    → IsPart (view p).known (view q).known → IsPart (root_pairs part (view p)) (root_pairs part (view q))
+    → RootStands store.about.width store.about.slots (view p).known pair v → part.is_full store.about (root_pairs part (view p)) pair → name_of (view q).seen v ≡ None

@@ -1,0 +1,56 @@
+//! The one way from a store to its roots, whatever table they stand in.
+
+use pair_rule::{Pass, RootPart, RootsFull};
+use tdb_base::{Ledger, Steps};
+
+/// A root table, as the store above it uses it. Each answer is one call of the store's history.
+pub trait RootTable<const W: u32, const F: u32> {
+    ghost use Rattle.std.specs.Prelude.{◌≡◌, ℕ, ◌^◌, ◌<◌, IfOk, OnErr, MatchOption, Some, option_map};
+    ghost use Rattle.packed_word.specs.Word.{pair_of};
+    ghost use Rattle.tdb_base.specs.Fakes.{counted};
+    ghost use Rattle.tdb_base.specs.History.{Vector, name_of};
+    ghost use Rattle.pair_rule.specs.Part.{Store};
+    ghost use Rattle.pair_rule.specs.Rest.{AtRest, view};
+    ghost use Rattle.pair_rule.specs.Calls.{IsSomeRoot};
+    ghost use Rattle.pair_nodes.specs.Roots.{RootPut, RootRefused, RootFound, RootUnknown, RootRead, FullForGood};
+
+    /// What the root table adds to the rule.
+    type Part: RootPart<W, F>;
+
+    /// The store whose roots these are.
+    ghost store: { Self → Store };
+
+    /// Gives the vector with the root `(left, right)` a name, or finds its name: its identifier, and whether it is new.
+    fn put<L: Ledger>(
+        &self,
+        pass: &mut Pass<Self::Part, W, F>,
+        left: u64,
+        right: u64,
+        steps: &mut Steps<L>,
+    ) -> Result<(u64, bool), RootsFull>
+        requires rest { AtRest Self.Part.part (store self.now) pass.old }
+        requires left { left < 2 ^ (store self.now).about.width }
+        requires right { right < 2 ^ (store self.now).about.width }
+        requires stands { IsSomeRoot (store self.now).about (view pass.old).known
+            (pair_of (store self.now).about.width left right) }
+        ensures put { IfOk result (λ a. RootPut Self.Part.part (store self.now)
+            (pair_of (store self.now).about.width left right) a.0 a.1 pass.old pass.new) }
+        ensures refused { OnErr result (RootRefused Self.Part.part (store self.now)
+            (pair_of (store self.now).about.width left right) pass.old pass.new) }
+        ensures tick { L.count steps.new ≡ option_map counted (L.count steps.old) };
+
+    /// The root, as its two parts, of the vector with this identifier, if it is some vector's.
+    fn find(&self, pass: &mut Pass<Self::Part, W, F>, id: u64) -> Option<(u64, u64)>
+        requires { AtRest Self.Part.part (store self.now) pass.old }
+        ensures { MatchOption result (RootUnknown Self.Part.part (store self.now) id pass.old pass.new)
+            (λ parts. RootFound Self.Part.part (store self.now) id parts pass.old pass.new) };
+
+    /// The root, as its two parts, of the vector with this identifier, which the pass has seen named.
+    fn read(&self, pass: &mut Pass<Self::Part, W, F>, id: u64) -> (u64, u64)
+        requires rest { AtRest Self.Part.part (store self.now) pass.old }
+        requires named { (vector : Vector) × (name_of (view pass.old).seen vector ≡ Some id) }
+        ensures { RootRead Self.Part.part (store self.now) id result pass.old pass.new };
+
+    // A root that was refused has no name for good.
+    ghost full_for_good: { FullForGood Self.Part.part };
+}
