@@ -5,17 +5,15 @@ use Rattle.std.specs.List.{list_any}
 use Rattle.std.proofs.lemmas.List.Sums.{sum_by-cons}
 use Rattle.std.proofs.Math.Nat.{mul-le-mul}
 use Rattle.std.proofs.Math.Pow.{pow_mono}
-use Rattle.atomic_table.specs.Seated.{TableId}
 use Rattle.tree_shape.specs.Tree.{Has}
 use Rattle.tdb_base.specs.History.{Entry, History, is_fresh, calls}
-use Rattle.pair_rule.specs.declared.sizes.About.{About}
 use Rattle.pair_rule.specs.declared.pass.PassOf.{PassOf}
-use Rattle.pair_rule.specs.Rest.{names_of_callers, view}
+use Rattle.pair_rule.specs.Rest.{AtRest, names_of_callers, view}
 use Rattle.pair_rule.proofs.Counts.{few_names}
 use Rattle.root_plain.specs.declared.root.Roots.{Roots}
-use Rattle.root_plain.specs.Plays.{Rests}
+use Rattle.pair_rule.specs.Part.{Store}
+use Rattle.root_plain.specs.Plain.{plain}
 use Rattle.root_plain.proofs.PassLaws.{below}
-use Rattle.root_plain.proofs.RootPasses.{plain_about}
 
 any_of : (x : ℕ) (ns : List ℕ) → Has x ns → list_any (λ c. c == x) ns ≡ true
 any_of x [] h = absurd h
@@ -70,11 +68,10 @@ pub names_all : (ns : List ℕ) (h : History) → ((c : ℕ) → (Has c ns → �
 names_all ns h others = names_known ns h (caller_known ns h others)
 
 -- a pass of a plain store counts no more names than there are buckets of roots
-pub few_plain_names : (table : TableId) (about : About) (p : PassOf Roots) → Rests table about p → p.names_count ≤ 16777216
-few_plain_names table about p r =
-    let most = few_names (view p).about.flags (2 ^ about.sizes.roots) (view p).numbers (view p).seen r.seat.sound.legal (λ v id named. below table about p r v id named) in
-    let is = plain_about table about p r in
-    let room : 2 ^ about.sizes.roots ≤ 2 ^ 24 = pow_mono is.range.roots.1 in
+pub few_plain_names : (store : Store) (p : PassOf Roots) → AtRest plain store p → p.names_count ≤ 16777216
+few_plain_names store p r =
+    let most = few_names (view p).about.flags (2 ^ store.about.sizes.roots) (view p).numbers (view p).seen r.seat.sound.legal (λ v id named. below store p r v id named) in
+    let room : 2 ^ store.about.sizes.roots ≤ 2 ^ 24 = pow_mono r.seat.is_about.range.roots.1 in
     let count = r.names_count in
     omega (arith, most, room, count)
 

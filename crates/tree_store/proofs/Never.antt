@@ -2,22 +2,19 @@
 use Rattle.std.proofs.Common.{◌≡◌, ◌≢◌, ◌⊎◌, ℕ, zero, suc, ◌+◌, ◌*◌, ◌^◌, ◌<◌, ◌≤◌, List, Option, Some, None, refl, sym, ap, ◌∙◌, subst, inl, inr, ⊎_elim, arith}
 use Rattle.std.proofs.lemmas.Nat.{shr_split}
 use Rattle.std.proofs.lemmas.Bool.{cases_lt, cases_eq}
-use Rattle.atomic_table.specs.Seated.{TableId}
 use Rattle.tree_shape.specs.Tree.{Has, left_part, right_part, Stands, RootStands}
 use Rattle.tree_shape.proofs.Trees.{at_pair, stands_more, one_number}
 use Rattle.tdb_base.specs.History.{Vector, name_of}
-use Rattle.tdb_base.specs.declared.reply.Reply.{Reply}
-use Rattle.tdb_base.specs.declared.reply.Reply.TheVariants as r
 use Rattle.packed_word.specs.Word.{pair_of}
 use Rattle.pair_rule.specs.declared.sizes.About.{About}
 use Rattle.pair_rule.specs.declared.pass.PassOf.{PassOf}
 use Rattle.pair_rule.specs.Paths.{node_buckets, bucket}
-use Rattle.pair_rule.specs.Rest.{view}
-use Rattle.root_plain.specs.declared.root.Roots.{Roots}
-use Rattle.root_plain.specs.Plays.{Rests}
-use Rattle.root_plain.proofs.PassLaws.{different, never_named}
+use Rattle.pair_rule.specs.Part.{Store, Part}
+use Rattle.pair_rule.specs.Rest.{AtRest, view}
+use Rattle.tdb_base.proofs.NameLemmas.{names-differ}
+use Rattle.pair_nodes.specs.Roots.{FullForGood}
 use Rattle.tree_store.specs.Vectors.{IsBlockedInside}
-use Rattle.tree_store.specs.Store.{HasBlockedRoot, NeverNamed, IfFull, IfFullRoots}
+use Rattle.tree_store.specs.Store.{HasBlockedRoot, NeverNamed}
 use Rattle.tree_store.proofs.Positions.{nodes_of}
 
 -- a number is twice another, or one more
@@ -58,8 +55,8 @@ module _ (width slots : ℕ) (nodes : List (ℕ × ℕ)) (v : Vector) where
       (cases_lt position 4)
 
 -- not where a pair inside the vector's tree has no place,
-pub inside_never_named : (table : TableId) (about : About) (p : PassOf Roots) (v : Vector) → IsBlockedInside about (view p).known v → NeverNamed table about p v
-inside_never_named table about p v b q rq known roots = by (name_of (view q).seen v) refl
+pub inside_never_named : {T : Type 0} (part : Part T) (store : Store) (p : PassOf T) (v : Vector) → IsBlockedInside store.about (view p).known v → NeverNamed part store p v
+inside_never_named part store p v b q rq known roots = by (name_of (view q).seen v) refl
   where
     by : (o : Option ℕ) → name_of (view q).seen v ≡ o → o ≡ None
     by None t = refl
@@ -69,27 +66,21 @@ inside_never_named table about p v b q rq known roots = by (name_of (view q).see
         let nodes = (view q).known in
         let k = s.named.each v id t in
         let m = s.named.only id k.0 k.1 in
-        let same = different table about q rq m.0 v id m.1 t in
-        let theirs : RootStands about.width about.slots nodes k.0 v =
+        let same = names-differ (view q).about.flags (view q).seen s.legal m.0 v id m.1 t in
+        let theirs : RootStands store.about.width store.about.slots nodes k.0 v =
         subst (λ (y : About). RootStands y.width y.slots nodes k.0 v) is (subst (λ (u : Vector). RootStands (view q).about.width (view q).about.slots nodes k.0 u) same m.2) in
-        let x = all_stand about.width about.slots nodes v k.0 theirs b.position b.position (omega arith) b.inner.0 (omega (arith, b.inner)) in
-        let index = at_pair about.width about.slots nodes v b.position x.0 b.inner.1 x.1 in
-        let lefts = one_number about.width about.slots nodes s.nodes.naming v (2 * b.position) (left_part about.width index.0) b.left index.2 (stands_more about.width about.slots (view p).known nodes v (2 * b.position) b.left known b.left_stands) in
-        let rights = one_number about.width about.slots nodes s.nodes.naming v (2 * b.position + 1) (right_part about.width index.0) b.right index.3 (stands_more about.width about.slots (view p).known nodes v (2 * b.position + 1) b.right known b.right_stands) in
-        let pair_is : index.0 ≡ pair_of about.width b.left b.right = sym (shr_split index.0 about.width) ∙ (λ i. lefts i * 2 ^ about.width + rights i) in
-        let path = (nodes_of about (view q) is s.nodes).on_path x.0 index.0 index.1 in
+        let x = all_stand store.about.width store.about.slots nodes v k.0 theirs b.position b.position (omega arith) b.inner.0 (omega (arith, b.inner)) in
+        let index = at_pair store.about.width store.about.slots nodes v b.position x.0 b.inner.1 x.1 in
+        let lefts = one_number store.about.width store.about.slots nodes s.nodes.naming v (2 * b.position) (left_part store.about.width index.0) b.left index.2 (stands_more store.about.width store.about.slots (view p).known nodes v (2 * b.position) b.left known b.left_stands) in
+        let rights = one_number store.about.width store.about.slots nodes s.nodes.naming v (2 * b.position + 1) (right_part store.about.width index.0) b.right index.3 (stands_more store.about.width store.about.slots (view p).known nodes v (2 * b.position + 1) b.right known b.right_stands) in
+        let pair_is : index.0 ≡ pair_of store.about.width b.left b.right = sym (shr_split index.0 store.about.width) ∙ (λ i. lefts i * 2 ^ store.about.width + rights i) in
+        let path = (nodes_of store.about (view q) is s.nodes).on_path x.0 index.0 index.1 in
         let other = b.blocked path.0 path.1 in
-        let here : bucket (node_buckets about) (pair_of about.width b.left b.right) path.0 ≡ x.0 = ap (λ (n : ℕ). bucket (node_buckets about) n path.0) (sym pair_is) ∙ path.2 in
-        let there : Has (x.0, other.0) nodes = subst (λ (i : ℕ). Has (i, other.0) nodes) here (known (bucket (node_buckets about) (pair_of about.width b.left b.right) path.0) other.0 other.1) in
+        let here : bucket (node_buckets store.about) (pair_of store.about.width b.left b.right) path.0 ≡ x.0 = ap (λ (n : ℕ). bucket (node_buckets store.about) n path.0) (sym pair_is) ∙ path.2 in
+        let there : Has (x.0, other.0) nodes = subst (λ (i : ℕ). Has (i, other.0) nodes) here (known (bucket (node_buckets store.about) (pair_of store.about.width b.left b.right) path.0) other.0 other.1) in
         absurd (other.2 (s.nodes.naming.one_pair x.0 other.0 index.0 there index.1 ∙ pair_is))
 
--- nor where its root pair has none
-pub root_never_named : (table : TableId) (about : About) (p : PassOf Roots) (v : Vector) → Rests table about p → HasBlockedRoot about (view p) v → NeverNamed table about p v
-root_never_named table about p v rp b q rq known roots = never_named table about p q b.0 v rp rq known roots b.1 b.2
 
--- what is shown of a reply that is full of roots is shown of one that is full, but not of nodes
-pub full_of_roots : (P Q : Type 0) (reply : Reply) → reply ≢ r.FullNodes → (P → Q) → IfFullRoots reply P → IfFull reply Q
-full_of_roots P Q (r.New id) not_nodes f fact = tt
-full_of_roots P Q (r.Seen id) not_nodes f fact = tt
-full_of_roots P Q r.FullNodes not_nodes f fact = absurd (not_nodes refl)
-full_of_roots P Q r.FullRoots not_nodes f fact = f fact
+-- and not where its root has none
+pub root_never_named : {T : Type 0} (part : Part T) → FullForGood part → (store : Store) (p : PassOf T) (v : Vector) → AtRest part store p → HasBlockedRoot part store.about (view p) v → NeverNamed part store p v
+root_never_named part for_good store p v rp b q rq known roots = for_good store p q b.0 v rp rq known roots b.1 b.2

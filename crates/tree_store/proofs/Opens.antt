@@ -1,10 +1,9 @@
 -- A tree is read from its root pair down.
-use Rattle.std.proofs.Common.{◌≡◌, ◌≢◌, ℕ, ◌+◌, ◌-◌, ◌*◌, ◌^◌, ◌<◌, ◌≤◌, List, length, set, get_or, Some, sym, ap, ◌∙◌, subst, ⊎_elim, arith, get_or-set_same, get_or-set_other, length-set, length-drop}
+use Rattle.std.proofs.Common.{refl, ◌≡◌, ◌≢◌, ℕ, ◌+◌, ◌-◌, ◌*◌, ◌^◌, ◌<◌, ◌≤◌, List, length, set, get_or, Some, sym, ap, ◌∙◌, subst, ⊎_elim, arith, get_or-set_same, get_or-set_other, length-set, length-drop}
 use Rattle.std.proofs.lemmas.Nat.{shr_high, mod_low}
 use Rattle.std.proofs.lemmas.Bool.{cases_eq}
 use Rattle.std.proofs.lemmas.List.{get_or-drop}
 use Rattle.std.proofs.lemmas.Grind.{get_or_default_zero, same_number_lists}
-use Rattle.atomic_table.specs.Seated.{TableId}
 use Rattle.tree_shape.specs.Tree.{Has, IsNaming, IsPart, left_part, right_part, Stands, RootStands}
 use Rattle.tree_shape.proofs.Trees.{at_slot, at_pair, stands_more}
 use Rattle.tdb_base.specs.History.{Vector, History, name_of}
@@ -13,12 +12,14 @@ use Rattle.pair_rule.specs.declared.view.View.{View}
 use Rattle.pair_rule.specs.declared.sizes.About.{About}
 use Rattle.pair_rule.specs.declared.pass.PassOf.{PassOf}
 use Rattle.pair_rule.specs.View.{Grown}
-use Rattle.pair_rule.specs.Rest.{view}
+use Rattle.pair_rule.specs.Rest.{AtRest, view}
 use Rattle.pair_nodes.specs.Probe.{Probed}
 use Rattle.pair_nodes.proofs.Views.{grown_trans}
-use Rattle.root_plain.specs.declared.root.Roots.{Roots}
-use Rattle.root_plain.specs.Plays.{Rests, CaughtUp}
-use Rattle.tree_store.specs.Vectors.{slots_of, StandsTo}
+use Rattle.pair_rule.specs.Part.{Store, Part, root_pairs}
+use Rattle.pair_rule.specs.Plays.{Caught}
+use Rattle.tree_store.specs.Vectors.{slots_of, StandsTo, KeepsLast}
+use Rattle.tree_store.specs.Reading.{PutsNone}
+use Rattle.tree_store.proofs.Inserts.{last_kept}
 use Rattle.tree_store.specs.Store.{Advanced}
 
 -- what is read at an inner position stands there
@@ -79,24 +80,25 @@ slots_are about v nodes tree two long slots stands = same_number_lists (slots_of
     get_or-drop about.slots tree j 0 ∙ (at_slot about.width about.slots nodes v (about.slots + j) (get_or tree (about.slots + j) 0) (omega arith) (stands (about.slots + j) (omega (arith, two)) (omega (arith, l, long, lt)))
     ∙ ap (λ (n : ℕ). get_or v n 0) back))
 
--- an identifier's root pair is that of a named vector
-pub named_root : (table : TableId) (about : About) (p : PassOf Roots) (id pair : ℕ) → Rests table about p → Has (id, pair) (view p).root.roots
-    → (v : Vector) × (name_of (view p).seen v ≡ Some id) × RootStands about.width about.slots (view p).known pair v × (length v ≡ about.slots)
-named_root table about p id pair rests has =
-    subst (λ (y : About). (v : Vector) × (name_of (view p).seen v ≡ Some id) × RootStands y.width y.slots (view p).known pair v × (length v ≡ y.slots)) rests.seat.about_is (rests.seat.sound.named.only id pair has)
+module _ {T : Type 0} (part : Part T) where
+  -- an identifier's root pair is that of a named vector
+  pub named_root : (store : Store) (p : PassOf T) (id pair : ℕ) → AtRest part store p → Has (id, pair) (root_pairs part (view p))
+      → (v : Vector) × (name_of (view p).seen v ≡ Some id) × RootStands store.about.width store.about.slots (view p).known pair v × (length v ≡ store.about.slots)
+  named_root store p id pair rests has =
+      subst (λ (y : About). (v : Vector) × (name_of (view p).seen v ≡ Some id) × RootStands y.width y.slots (view p).known pair v × (length v ≡ y.slots)) rests.seat.about_is (rests.seat.sound.named.only id pair has)
 
--- calls, and then nodes that were looked up
-pub advanced_then : (more : History) (u v w : View Roots) → CaughtUp more u v → Grown v w → Advanced more u w
-advanced_then more u v w k g = record {
-  log = k.log;
-  seen = g.seen ∙ k.seen;
-  begins = k.begins;
-  own = k.own;
-  about = g.about ∙ k.about;
-  face_is = g.face_is ∙ k.face_is;
-  known = λ i pair has. g.known i pair (k.known i pair has);
-  roots = subst (λ (t : Roots). IsPart u.root.roots t.roots) (sym g.root) k.roots_stay;
-}
+  -- calls, and then nodes that were looked up
+  pub advanced_then : (more : History) (u v w : View T) → Caught part more u v → Grown v w → Advanced part more u w
+  advanced_then more u v w k g = record {
+    log = k.log;
+    seen = g.seen ∙ k.seen;
+    begins = k.begins;
+    own = k.own;
+    about = g.about ∙ k.about;
+    face_is = g.face_is ∙ k.face_is;
+    known = λ i pair has. g.known i pair (k.known i pair has);
+    roots = subst (λ (pairs : List (ℕ × ℕ)). IsPart (root_pairs part u) pairs) (λ i. part.roots (sym g.about i) (sym g.seen i) (sym g.root i)) k.roots_stay;
+  }
 
 -- looking nodes up after looking nodes up
 pub probed_then : {T : Type 0} (u v w : View T) → Probed 0 u v → Probed 0 v w → Probed 0 u w
@@ -112,3 +114,14 @@ pub root_noted : (about : About) (width : ℕ) (v : Vector) (nodes : List (ℕ �
 root_noted about width v nodes tree next left right is small long noted root =
     subst (λ (l : List ℕ). StandsTo about v 4 nodes l) (sym noted)
     (stands_to_more about v 1 left right nodes nodes tree long (λ i y has. has) (root_parts about width is v nodes left right small root) (λ q low high. absurd (omega arith)))
+
+-- calls by which no node was put, and then nodes that were looked up, leave the nodes and the last tree
+pub puts_none : {T : Type 0} (part : Part T) (more : History) (p q r : PassOf T) → Caught part more (view p) (view q) → q ≡ record p { seat = q.seat } → KeepsLast q r → Probed 0 (view q) (view r) → PutsNone p r
+puts_none {T} part more p q r k same keeps probed = record {
+  made = probed.made ∙ k.made;
+  probes = let a = probed.probes_are in let b = k.probes in omega (arith, a, b);
+  last_stays = last_kept p r (ap (λ (x : PassOf T). x.has_last) keeps ∙ ap (λ (x : PassOf T). x.has_last) same) (ap (λ (x : PassOf T). x.last_tree) keeps ∙ ap (λ (x : PassOf T). x.last_tree) same) (probed.grown.about ∙ k.about);
+}
+
+pub grown_still : {T : Type 0} (v : View T) → Grown v v
+grown_still v = record { about = refl; face_is = refl; busy = refl; seen = refl; known = λ i x h. h; root = refl }

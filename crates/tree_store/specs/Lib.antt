@@ -1,3 +1,4 @@
 pub mod Vectors
 pub mod Store
 pub mod Ranges
+pub mod Reading

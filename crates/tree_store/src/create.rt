@@ -1,11 +1,10 @@
 //! How a plain store is made.
 ghost use Rattle.std.specs.Prelude.{◌≡◌, ℕ, ◌≤◌, ◌↔◌, IsTrue, IfOk, Err, MatchOption, false};
 ghost use Rattle.packed_word.specs.Word.{IsLayout};
-ghost use Rattle.pair_rule.specs.Laws.{IsAbout};
-ghost use Rattle.pair_rule.specs.Rest.{Whole, view};
+ghost use Rattle.pair_rule.specs.Part.{IsTable};
+ghost use Rattle.pair_rule.specs.Rest.{AtRest, Whole, view};
 ghost use Rattle.pair_rule.specs.View.{newcomer};
-ghost use Rattle.root_plain.specs.Plain.{no_roots, sized, count};
-ghost use Rattle.root_plain.specs.Plays.{Rests};
+ghost use Rattle.root_plain.specs.Plain.{nothing_known, plain};
 ghost use Rattle.tree_store.specs.Ranges.{NodesFit, RootsFit, ProbeFits, IsFirstOut};
 
 use crate::store::{PlainPass, PlainStore, TreeStore};
@@ -70,11 +69,13 @@ impl<const W: u32, const F: u32> TreeStore<PlainRoot<W, F>, W, F> {
     ) -> Result<(PlainStore<W, F>, PlainPass<W, F>), CreateError>
         requires layout { IsLayout W F }
         ensures sizes { (n : ℕ) → (result ≡ Err (CreateError.Sizes n)) ↔ IsFirstOut W sizes.now n }
-        ensures about { IfOk result (λ made. IsAbout W F sized count made.0.nodes.table.about × (made.0.nodes.table.about.sizes ≡ sizes.now) × (made.0.nodes.table.about.slots ≡ shape)) }
-        ensures view { IfOk result (λ made. view made.1 ≡ newcomer no_roots made.0.nodes.table.about) }
+        ensures store { IfOk result (λ made. IsTable W F plain made.0) }
+        ensures sizes_are { IfOk result (λ made. made.0.about.sizes ≡ sizes.now) }
+        ensures slots { IfOk result (λ made. made.0.about.slots ≡ shape) }
+        ensures view { IfOk result (λ made. view made.1 ≡ newcomer nothing_known made.0.about) }
         ensures whole { IfOk result (λ made. Whole (view made.1)) }
         ensures no_tree { IfOk result (λ made. made.1.has_last ≡ false) }
-        ensures rest { IfOk result (λ made. Rests made.0.nodes.table.table.shared.table_id made.0.nodes.table.about made.1) }
+        ensures rest { IfOk result (λ made. AtRest plain made.0 made.1) }
     {
         if let Some(number) = first_out::<W>(sizes) {
             return Err(CreateError::Sizes(number));

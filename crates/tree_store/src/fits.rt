@@ -1,3 +1,4 @@
+//! Whether a store can keep a vector.
 ghost use Rattle.std.specs.Prelude.{◌≡◌, ℕ, ◌^◌, ◌<◌, ◌≤◌, ◌↔◌, IsTrue, All, slice_index};
 ghost use Rattle.tree_store.specs.Vectors.{IsVector};
 
@@ -20,7 +21,7 @@ fn all_below<const W: u32>(vector: &[u32]) -> bool
 impl<R: RootPart<W, F>, const W: u32, const F: u32> TreeStore<R, W, F> {
     /// Whether the store can keep the vector: it has the store's slots, each below `2^W`.
     pub fn fits(&self, vector: &[u32]) -> bool
-        ensures { IsTrue result ↔ IsVector self.now.nodes.table.about vector.now }
+        ensures { IsTrue result ↔ IsVector self.now.about vector.now }
     {
         let shape = &self.shape;
         vector.len() == shape.slots() && all_below::<W>(vector)

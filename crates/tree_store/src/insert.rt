@@ -1,20 +1,19 @@
-//! A vector is inserted into a plain store: its slots, its inner nodes, and then its root.
-ghost use Rattle.std.specs.Prelude.{◌≡◌, ◌≢◌, ℕ, ◌+◌, ◌-◌, ◌*◌, ◌<◌, ◌≤◌, true, Some, [], ◌∷◌, drop, length, option_map};
+//! A vector is inserted into a store: its slots, its inner nodes, and then its root.
+ghost use Rattle.std.specs.Prelude.{◌≡◌, ◌*◌, ◌<◌, ◌≤◌, true, None, drop, length, option_map};
 ghost use Rattle.tdb_base.specs.Fakes.{counted};
-ghost use Rattle.tdb_base.specs.History.{name_of};
-ghost use Rattle.pair_rule.specs.Rest.{view, last_vector};
-ghost use Rattle.root_plain.specs.Plays.{Rests, CaughtUp, call};
-ghost use Rattle.root_plain.specs.Probe.{SameBuffers};
-ghost use Rattle.tree_store.specs.Vectors.{IsVector, slots_of, StandsFrom, compared, puts_after, raised, RaisedWithin, Gained, Refused};
-ghost use Rattle.tree_store.specs.Store.{naming, IfNamed, IfFullNodes, IfFullRoots, HasRoot, HasBlockedRoot, KeepsTree, IfFull, NeverNamed, KeepsLastTree, Advanced};
+ghost use Rattle.pair_rule.specs.Rest.{AtRest, view, last_vector};
+ghost use Rattle.root_plain.specs.Plain.{plain};
+ghost use Rattle.tree_store.specs.Vectors.{IsVector, slots_of, StandsFrom, compared, puts_after};
+ghost use Rattle.tree_store.specs.Store.{naming, IsAnswered, AreTicked, RootIsAnswered};
 
 use crate::store::{PlainPass, PlainStore, TreeStore};
 use crate::tree::put_nodes;
-use pair_nodes::Nodes;
+use pair_nodes::{Nodes, RootTable};
 use pair_rule::{Pass, PassOf, RootsFull};
-use root_plain::{PlainRoot, put_root};
+use root_plain::{PlainRoot, PlainTable};
 use std::mem;
 use tdb_base::{Ledger, Reply, Steps};
+use tree_shape::Shape;
 
 // Copies the vector into the slots of the tree that is being put.
 fn fill_slots<T>(pass: &mut PassOf<T>, slots: usize, vector: &[u32])
@@ -47,28 +46,25 @@ fn reply(fresh: bool, id: u64) -> Reply
     }
 }
 
-// Puts the root of the vector whose inner nodes all stand in the tree that was put, which becomes the last one if there was a place.
-fn put_tree_root<L: Ledger, const W: u32, const F: u32>(
-    nodes: &Nodes<PlainRoot<W, F>, W, F>,
-    pass: &mut Pass<PlainRoot<W, F>, W, F>,
+// Puts the root of the vector whose inner nodes all stand in the tree that was put, which becomes the last one if there
+// was a place.
+fn put_tree_root<D: RootTable<W, F>, L: Ledger, const W: u32, const F: u32>(
+    roots: &D,
+    pass: &mut Pass<D::Part, W, F>,
     steps: &mut Steps<L>,
 ) -> Reply
-    requires rest { Rests nodes.now.table.table.shared.table_id nodes.now.table.about pass.old }
-    requires vector { IsVector nodes.now.table.about (slots_of nodes.now.table.about pass.old.next_tree.items) }
-    requires stands { StandsFrom nodes.now.table.about (slots_of nodes.now.table.about pass.old.next_tree.items) 2 (view pass.old).known pass.old.next_tree.items }
-    ensures rest { Rests nodes.now.table.table.shared.table_id nodes.now.table.about pass.new }
-    ensures call { IfNamed result (λ fresh id. CaughtUp (call (view pass.old).number fresh (slots_of nodes.now.table.about pass.old.next_tree.items) id ∷ []) (view pass.old) (view pass.new)) }
-    ensures root { IfNamed result (λ fresh id. HasRoot nodes.now.table.about (view pass.new) (slots_of nodes.now.table.about pass.old.next_tree.items) id) }
-    ensures tree { IfNamed result (λ fresh id. KeepsTree pass.old pass.new) }
-    ensures full { IfFullRoots result (HasBlockedRoot nodes.now.table.about (view pass.new) (slots_of nodes.now.table.about pass.old.next_tree.items)) }
-    ensures no_call { IfFullRoots result (CaughtUp [] (view pass.old) (view pass.new)) }
-    ensures full_tree { IfFullRoots result (SameBuffers pass.old pass.new) }
-    ensures not_nodes { result ≢ Reply.FullNodes }
+    requires rest { AtRest D.Part.part (D.store roots.now) pass.old }
+    requires vector { IsVector (D.store roots.now).about (slots_of (D.store roots.now).about pass.old.next_tree.items) }
+    requires stands { let about = (D.store roots.now).about in
+        StandsFrom about (slots_of about pass.old.next_tree.items) 2 (view pass.old).known pass.old.next_tree.items }
+    ensures rest { AtRest D.Part.part (D.store roots.now) pass.new }
+    ensures answered { RootIsAnswered D.Part.part (D.store roots.now)
+        (slots_of (D.store roots.now).about pass.old.next_tree.items) result pass.old pass.new }
     ensures tick { L.count steps.new ≡ option_map counted (L.count steps.old) }
 {
     let left = pass.next_tree[2] as u64;
     let right = pass.next_tree[3] as u64;
-    match put_root(nodes, pass, left, right, steps) {
+    match roots.put(pass, left, right, steps) {
         Ok((id, fresh)) => {
             keep_tree(pass);
             reply(fresh, id)
@@ -78,104 +74,96 @@ fn put_tree_root<L: Ledger, const W: u32, const F: u32>(
 }
 
 // Inserts the vector: its slots, its inner nodes (all, or only those that the last tree doesn't have), and its root.
-fn put_vector<L: Ledger, const W: u32, const F: u32>(
-    store: &PlainStore<W, F>,
-    pass: &mut PlainPass<W, F>,
+fn put_vector<D: RootTable<W, F>, L: Ledger, const W: u32, const F: u32>(
+    roots: &D,
+    nodes: &Nodes<D::Part, W, F>,
+    shape: &Shape,
+    pass: &mut Pass<D::Part, W, F>,
     vector: &[u32],
     from_last: bool,
     steps: &mut Steps<L>,
 ) -> Reply
-    requires rest { Rests store.now.nodes.table.table.shared.table_id store.now.nodes.table.about pass.old }
-    requires vector { IsVector store.now.nodes.table.about vector.now }
-    ensures rest { Rests store.now.nodes.table.table.shared.table_id store.now.nodes.table.about pass.new }
-    ensures call { IfNamed result (λ fresh id. Advanced (call (view pass.old).number fresh vector.now id ∷ []) (view pass.old) (view pass.new)) }
-    ensures root { IfNamed result (λ fresh id. HasRoot store.now.nodes.table.about (view pass.new) vector.now id) }
-    ensures last { IfNamed result (λ fresh id. last_vector pass.new ≡ Some vector.now) }
-    ensures nodes { IfNamed result (λ fresh id. Gained store.now.nodes.table.about vector.now (puts_after store.now.nodes.table.about (compared from_last pass.old) vector.now) (view pass.old) (view pass.new)) }
-    ensures probes { IfNamed result (λ fresh id. (view pass.new).probes ≡ (view pass.old).probes + puts_after store.now.nodes.table.about (compared from_last pass.old) vector.now) }
-    ensures ticks { IfNamed result (λ fresh id. L.count steps.new ≡ raised (puts_after store.now.nodes.table.about (compared from_last pass.old) vector.now + 1) (L.count steps.old)) }
-    ensures full_nodes { IfFullNodes result (Refused store.now.nodes.table.about vector.now (puts_after store.now.nodes.table.about (compared from_last pass.old) vector.now) (view pass.old) (view pass.new)) }
-    ensures full_nodes_ticks { IfFullNodes result (RaisedWithin (puts_after store.now.nodes.table.about (compared from_last pass.old) vector.now) (L.count steps.old) (L.count steps.new)) }
-    ensures full_roots { IfFullRoots result (HasBlockedRoot store.now.nodes.table.about (view pass.new) vector.now) }
-    ensures full_roots_no_call { IfFullRoots result (Advanced [] (view pass.old) (view pass.new)) }
-    ensures full_roots_nodes { IfFullRoots result (Gained store.now.nodes.table.about vector.now (puts_after store.now.nodes.table.about (compared from_last pass.old) vector.now) (view pass.old) (view pass.new)) }
-    ensures full_roots_probes { IfFullRoots result ((view pass.new).probes ≡ (view pass.old).probes + puts_after store.now.nodes.table.about (compared from_last pass.old) vector.now) }
-    ensures full_roots_ticks { IfFullRoots result (L.count steps.new ≡ raised (puts_after store.now.nodes.table.about (compared from_last pass.old) vector.now + 1) (L.count steps.old)) }
-    ensures full_last { IfFull result (KeepsLastTree pass.old pass.new) }
-    ensures full_for_good { IfFull result (NeverNamed store.now.nodes.table.table.shared.table_id store.now.nodes.table.about pass.new vector.now) }
+    requires roots { D.store roots.now ≡ nodes.now }
+    requires shape { shape.now ≡ nodes.now.about.slots }
+    requires rest { AtRest D.Part.part nodes.now pass.old }
+    requires vector { IsVector nodes.now.about vector.now }
+    ensures rest { AtRest D.Part.part nodes.now pass.new }
+    ensures answered { IsAnswered D.Part.part nodes.now (compared from_last pass.old) vector.now result pass.old pass.new }
+    ensures ticks { AreTicked (puts_after nodes.now.about (compared from_last pass.old) vector.now) result
+        (L.count steps.old) (L.count steps.new) }
 {
-    let shape = &store.shape;
     fill_slots(pass, shape.slots(), vector);
-    let Ok(()) = put_nodes(&store.nodes, shape, pass, from_last, steps) else {
+    let Ok(()) = put_nodes(nodes, shape, pass, from_last, steps) else {
         return Reply::FullNodes;
     };
-    put_tree_root(&store.nodes, pass, steps)
+    put_tree_root(roots, pass, steps)
+}
+
+/// Gives the vector a name, or finds its name, through a store's root table. Only those inner nodes are put below which
+/// the vector differs from that of the pass's last tree, if it has one: `TreeStore::insert_from` over any root table.
+pub fn insert_from_last<D: RootTable<W, F>, L: Ledger, const W: u32, const F: u32>(
+    roots: &D,
+    store: &TreeStore<D::Part, W, F>,
+    pass: &mut Pass<D::Part, W, F>,
+    vector: &[u32],
+    steps: &mut Steps<L>,
+) -> Reply
+    requires roots { D.store roots.now ≡ store.now }
+    requires rest { AtRest D.Part.part store.now pass.old }
+    requires vector { IsVector store.now.about vector.now }
+    ensures rest { AtRest D.Part.part store.now pass.new }
+    ensures answered { IsAnswered D.Part.part store.now (last_vector pass.old) vector.now result pass.old pass.new }
+    ensures ticks { AreTicked (puts_after store.now.about (last_vector pass.old) vector.now) result
+        (L.count steps.old) (L.count steps.new) }
+{
+    let nodes = &store.nodes;
+    let shape = &store.shape;
+    put_vector(roots, nodes, shape, pass, vector, true, steps)
 }
 
 impl<const W: u32, const F: u32> TreeStore<PlainRoot<W, F>, W, F> {
-    /// Gives the vector a name, or finds its name. It puts all inner nodes of the vector's tree, from the last position down, and then the root.
+    /// Gives the vector a name, or finds its name. It puts all inner nodes of the vector's tree, from the last position
+    /// down, and then the root.
     ///
-    /// The vector fits the store: it has the store's slots, each below `2^W`. With `New` and `Seen` the answer is one call of the store's history, at one
-    /// atomic step; the pass has then seen that history up to it, its last tree is this vector's, and a step was counted for each inner position and for the
-    /// root. `FullNodes` comes only where on the path of some pair of the tree each bucket has another pair, `FullRoots` only where this is so of the root:
-    /// then the vector never gets a name, no call is made, the last tree stays, and nodes that were put before stay. It waits for nobody and takes no memory.
+    /// The vector fits the store: it has the store's slots, each below `2^W`. With `New` and `Seen` the answer is one call
+    /// of the store's history, at one atomic step; the pass has then seen that history up to it, its last tree is this
+    /// vector's, and a step was counted for each inner position and for the root. `FullNodes` comes only where on the path
+    /// of some pair of the tree each bucket has another pair, `FullRoots` only where this is so of the root: then the
+    /// vector never gets a name, no call is made, the last tree stays, and nodes that were put before stay. It waits for
+    /// nobody and takes no memory.
     pub fn insert<L: Ledger>(
         &self,
         pass: &mut PlainPass<W, F>,
         vector: &[u32],
         steps: &mut Steps<L>,
     ) -> Reply
-        requires rest { Rests self.now.nodes.table.table.shared.table_id self.now.nodes.table.about pass.old }
-        requires vector { IsVector self.now.nodes.table.about vector.now }
-        ensures rest { Rests self.now.nodes.table.table.shared.table_id self.now.nodes.table.about pass.new }
-        ensures call { IfNamed result (λ fresh id. Advanced (call (view pass.old).number fresh vector.now id ∷ []) (view pass.old) (view pass.new)) }
-        ensures name { IfNamed result (λ fresh id. name_of (view pass.new).seen vector.now ≡ Some id) }
-        ensures root { IfNamed result (λ fresh id. HasRoot self.now.nodes.table.about (view pass.new) vector.now id) }
-        ensures last { IfNamed result (λ fresh id. last_vector pass.new ≡ Some vector.now) }
-        ensures nodes { IfNamed result (λ fresh id. Gained self.now.nodes.table.about vector.now (self.now.nodes.table.about.slots - 2) (view pass.old) (view pass.new)) }
-        ensures probes { IfNamed result (λ fresh id. (view pass.new).probes ≡ (view pass.old).probes + (self.now.nodes.table.about.slots - 2)) }
-        ensures ticks { IfNamed result (λ fresh id. L.count steps.new ≡ raised ((self.now.nodes.table.about.slots - 2) + 1) (L.count steps.old)) }
-        ensures full_nodes { IfFullNodes result (Refused self.now.nodes.table.about vector.now (self.now.nodes.table.about.slots - 2) (view pass.old) (view pass.new)) }
-        ensures full_nodes_ticks { IfFullNodes result (RaisedWithin (self.now.nodes.table.about.slots - 2) (L.count steps.old) (L.count steps.new)) }
-        ensures full_roots { IfFullRoots result (HasBlockedRoot self.now.nodes.table.about (view pass.new) vector.now) }
-        ensures full_roots_no_call { IfFullRoots result (Advanced [] (view pass.old) (view pass.new)) }
-        ensures full_roots_nodes { IfFullRoots result (Gained self.now.nodes.table.about vector.now (self.now.nodes.table.about.slots - 2) (view pass.old) (view pass.new)) }
-        ensures full_roots_probes { IfFullRoots result ((view pass.new).probes ≡ (view pass.old).probes + (self.now.nodes.table.about.slots - 2)) }
-        ensures full_roots_ticks { IfFullRoots result (L.count steps.new ≡ raised ((self.now.nodes.table.about.slots - 2) + 1) (L.count steps.old)) }
-        ensures full_last { IfFull result (KeepsLastTree pass.old pass.new) }
-        ensures full_for_good { IfFull result (NeverNamed self.now.nodes.table.table.shared.table_id self.now.nodes.table.about pass.new vector.now) }
+        requires rest { AtRest plain self.now pass.old }
+        requires vector { IsVector self.now.about vector.now }
+        ensures rest { AtRest plain self.now pass.new }
+        ensures answered { IsAnswered plain self.now None vector.now result pass.old pass.new }
+        ensures ticks { AreTicked (puts_after self.now.about None vector.now) result
+            (L.count steps.old) (L.count steps.new) }
     {
-        put_vector(self, pass, vector, false, steps)
+        let nodes = &self.nodes;
+        let shape = &self.shape;
+        put_vector(&PlainTable::over(nodes), nodes, shape, pass, vector, false, steps)
     }
 
-    /// The same, but only those inner nodes are put below which the vector differs from that of the pass's last tree, if it has one. A step is counted for
-    /// each of these and for the root.
+    /// The same, but only those inner nodes are put below which the vector differs from that of the pass's last tree, if
+    /// it has one. A step is counted for each of these and for the root.
     pub fn insert_from<L: Ledger>(
         &self,
         pass: &mut PlainPass<W, F>,
         vector: &[u32],
         steps: &mut Steps<L>,
     ) -> Reply
-        requires rest { Rests self.now.nodes.table.table.shared.table_id self.now.nodes.table.about pass.old }
-        requires vector { IsVector self.now.nodes.table.about vector.now }
-        ensures rest { Rests self.now.nodes.table.table.shared.table_id self.now.nodes.table.about pass.new }
-        ensures call { IfNamed result (λ fresh id. Advanced (call (view pass.old).number fresh vector.now id ∷ []) (view pass.old) (view pass.new)) }
-        ensures name { IfNamed result (λ fresh id. name_of (view pass.new).seen vector.now ≡ Some id) }
-        ensures root { IfNamed result (λ fresh id. HasRoot self.now.nodes.table.about (view pass.new) vector.now id) }
-        ensures last { IfNamed result (λ fresh id. last_vector pass.new ≡ Some vector.now) }
-        ensures nodes { IfNamed result (λ fresh id. Gained self.now.nodes.table.about vector.now (puts_after self.now.nodes.table.about (last_vector pass.old) vector.now) (view pass.old) (view pass.new)) }
-        ensures probes { IfNamed result (λ fresh id. (view pass.new).probes ≡ (view pass.old).probes + (puts_after self.now.nodes.table.about (last_vector pass.old) vector.now)) }
-        ensures ticks { IfNamed result (λ fresh id. L.count steps.new ≡ raised ((puts_after self.now.nodes.table.about (last_vector pass.old) vector.now) + 1) (L.count steps.old)) }
-        ensures full_nodes { IfFullNodes result (Refused self.now.nodes.table.about vector.now (puts_after self.now.nodes.table.about (last_vector pass.old) vector.now) (view pass.old) (view pass.new)) }
-        ensures full_nodes_ticks { IfFullNodes result (RaisedWithin (puts_after self.now.nodes.table.about (last_vector pass.old) vector.now) (L.count steps.old) (L.count steps.new)) }
-        ensures full_roots { IfFullRoots result (HasBlockedRoot self.now.nodes.table.about (view pass.new) vector.now) }
-        ensures full_roots_no_call { IfFullRoots result (Advanced [] (view pass.old) (view pass.new)) }
-        ensures full_roots_nodes { IfFullRoots result (Gained self.now.nodes.table.about vector.now (puts_after self.now.nodes.table.about (last_vector pass.old) vector.now) (view pass.old) (view pass.new)) }
-        ensures full_roots_probes { IfFullRoots result ((view pass.new).probes ≡ (view pass.old).probes + (puts_after self.now.nodes.table.about (last_vector pass.old) vector.now)) }
-        ensures full_roots_ticks { IfFullRoots result (L.count steps.new ≡ raised ((puts_after self.now.nodes.table.about (last_vector pass.old) vector.now) + 1) (L.count steps.old)) }
-        ensures full_last { IfFull result (KeepsLastTree pass.old pass.new) }
-        ensures full_for_good { IfFull result (NeverNamed self.now.nodes.table.table.shared.table_id self.now.nodes.table.about pass.new vector.now) }
+        requires rest { AtRest plain self.now pass.old }
+        requires vector { IsVector self.now.about vector.now }
+        ensures rest { AtRest plain self.now pass.new }
+        ensures answered { IsAnswered plain self.now (last_vector pass.old) vector.now result pass.old pass.new }
+        ensures ticks { AreTicked (puts_after self.now.about (last_vector pass.old) vector.now) result
+            (L.count steps.old) (L.count steps.new) }
     {
-        put_vector(self, pass, vector, true, steps)
+        insert_from_last(&PlainTable::over(self.nodes()), self, pass, vector, steps)
     }
 }

@@ -12,6 +12,8 @@ mod tree;
 mod unfold;
 
 pub use create::CreateError;
+pub use insert::insert_from_last;
+pub use read::read_vector;
 pub use store::{PlainPass, PlainStore, TreeStore};
 
 #[cfg(test)]

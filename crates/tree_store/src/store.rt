@@ -1,17 +1,38 @@
+//! A store of vectors.
 ghost use Rattle.std.specs.Prelude.{◌≡◌};
 
 use pair_nodes::Nodes;
 use pair_rule::{Pass, RootPart};
 use root_plain::PlainRoot;
+use std::marker::Model;
 use tree_shape::Shape;
 
 /// A store of vectors: the shape of their trees, and the shared table of pairs in which these lie.
 ///
-/// The fields are for the layers of the store alone.
+/// Contracts see it as they see that table: which it is, and what it is about.
 pub struct TreeStore<R: RootPart<W, F>, const W: u32, const F: u32> {
-    pub shape: Shape,
-    pub nodes: Nodes<R, W, F>,
-    pub ghost slots: { shape ≡ nodes.table.about.slots },
+    pub(crate) shape: Shape,
+    pub(crate) nodes: Nodes<R, W, F>,
+}
+
+impl<R: RootPart<W, F>, const W: u32, const F: u32> Model for TreeStore<R, W, F> {
+    ghost use Rattle.std.specs.Prelude.{◌≡◌};
+    ghost use Rattle.pair_rule.specs.Part.{Store, IsTable};
+
+    ghost Value = { Store };
+
+    ghost view = { λ s. s.nodes };
+
+    ghost invariant = { λ s. (s.shape ≡ s.nodes.about.slots) × IsTable W F R.part s.nodes };
+}
+
+impl<R: RootPart<W, F>, const W: u32, const F: u32> TreeStore<R, W, F> {
+    /// The nodes, over which a root table is opened.
+    pub fn nodes(&self) -> &Nodes<R, W, F>
+        ensures { result.now ≡ self.now }
+    {
+        &self.nodes
+    }
 }
 
 /// A store whose roots stand in a plain table: an identifier is a bucket's number, below `2^roots`.

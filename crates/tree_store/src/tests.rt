@@ -2,8 +2,8 @@
 ghost use Rattle.std.specs.Prelude.{◌≡◌, Some};
 ghost use Rattle.packed_word.specs.Word.{IsLayout};
 ghost use Rattle.tdb_base.specs.History.{Vector, name_of};
-ghost use Rattle.pair_rule.specs.Rest.{view};
-ghost use Rattle.root_plain.specs.Plays.{Rests};
+ghost use Rattle.pair_rule.specs.Rest.{AtRest, view};
+ghost use Rattle.root_plain.specs.Plain.{plain};
 ghost use Rattle.tree_store.specs.Store.{IfNamed};
 
 use crate::{CreateError, PlainPass, PlainStore, TreeStore};
@@ -23,8 +23,8 @@ fn store<const W: u32, const F: u32>(
     nodes: u32,
 ) -> (PlainStore<W, F>, PlainPass<W, F>)
     requires layout { IsLayout W F }
-    ensures slots { result.0.nodes.table.about.slots ≡ slots }
-    ensures rest { Rests result.0.nodes.table.table.shared.table_id result.0.nodes.table.about result.1 }
+    ensures slots { result.0.about.slots ≡ slots }
+    ensures rest { AtRest plain result.0 result.1 }
 {
     let sizes = Sizes {
         nodes,
@@ -49,8 +49,8 @@ fn put<L: Ledger, const W: u32, const F: u32>(
     vector: &[u32],
     steps: &mut Steps<L>,
 ) -> Reply
-    requires rest { Rests store.now.nodes.table.table.shared.table_id store.now.nodes.table.about pass.old }
-    ensures rest { Rests store.now.nodes.table.table.shared.table_id store.now.nodes.table.about pass.new }
+    requires rest { AtRest plain store.now pass.old }
+    ensures rest { AtRest plain store.now pass.new }
     ensures named { IfNamed result (λ fresh id. (v : Vector) × (name_of (view pass.new).seen v ≡ Some id)) }
 {
     assert!(rt; store.fits(vector));

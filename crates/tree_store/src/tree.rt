@@ -19,18 +19,18 @@ fn put_position<R: RootPart<W, F>, L: Ledger, const W: u32, const F: u32>(
     p: usize,
     steps: &mut Steps<L>,
 ) -> Result<(), NodesFull>
-    requires rest { AtRest R.roots R.house R.told nodes.now.table.table.shared.table_id nodes.now.table.about pass.old }
-    requires inner { (2 ≤ p) × (p < nodes.now.table.about.slots) }
-    requires vector { IsVector nodes.now.table.about (slots_of nodes.now.table.about pass.old.next_tree.items) }
-    requires stands { StandsFrom nodes.now.table.about (slots_of nodes.now.table.about pass.old.next_tree.items) (p + 1) (view pass.old).known pass.old.next_tree.items }
-    ensures rest { AtRest R.roots R.house R.told nodes.now.table.table.shared.table_id nodes.now.table.about pass.new }
+    requires rest { AtRest R.part nodes.now pass.old }
+    requires inner { (2 ≤ p) × (p < nodes.now.about.slots) }
+    requires vector { IsVector nodes.now.about (slots_of nodes.now.about pass.old.next_tree.items) }
+    requires stands { StandsFrom nodes.now.about (slots_of nodes.now.about pass.old.next_tree.items) (p + 1) (view pass.old).known pass.old.next_tree.items }
+    ensures rest { AtRest R.part nodes.now pass.new }
     ensures tick { L.count steps.new ≡ option_map counted (L.count steps.old) }
     ensures keeps { KeepsLast pass.old pass.new }
-    ensures vector { slots_of nodes.now.table.about pass.new.next_tree.items ≡ slots_of nodes.now.table.about pass.old.next_tree.items }
+    ensures vector { slots_of nodes.now.about pass.new.next_tree.items ≡ slots_of nodes.now.about pass.old.next_tree.items }
     ensures marks { pass.new.marks ≡ pass.old.marks }
-    ensures stands { IfOk result (λ done. StandsFrom nodes.now.table.about (slots_of nodes.now.table.about pass.old.next_tree.items) p (view pass.new).known pass.new.next_tree.items) }
-    ensures put { IfOk result (λ done. Building nodes.now.table.about (slots_of nodes.now.table.about pass.old.next_tree.items) 1 (view pass.old) (view pass.new)) }
-    ensures full { OnErr result (IsBlockedInside nodes.now.table.about (view pass.new).known (slots_of nodes.now.table.about pass.old.next_tree.items)) }
+    ensures stands { IfOk result (λ done. StandsFrom nodes.now.about (slots_of nodes.now.about pass.old.next_tree.items) p (view pass.new).known pass.new.next_tree.items) }
+    ensures put { IfOk result (λ done. Building nodes.now.about (slots_of nodes.now.about pass.old.next_tree.items) 1 (view pass.old) (view pass.new)) }
+    ensures full { OnErr result (IsBlockedInside nodes.now.about (view pass.new).known (slots_of nodes.now.about pass.old.next_tree.items)) }
     ensures full_puts_none { OnErr result (Probed 1 (view pass.old) (view pass.new)) }
 {
     let left = pass.next_tree[2 * p] as u64;
@@ -49,15 +49,15 @@ fn keep_position<R: RootPart<W, F>, const W: u32, const F: u32>(
     pass: &mut Pass<R, W, F>,
     p: usize,
 )
-    requires rest { AtRest R.roots R.house R.told nodes.now.table.table.shared.table_id nodes.now.table.about pass.old }
+    requires rest { AtRest R.part nodes.now pass.old }
     requires last { pass.old.has_last ≡ true }
-    requires inner { (2 ≤ p) × (p < nodes.now.table.about.slots) }
-    requires same { IsChanged nodes.now.table.about.slots (slots_of nodes.now.table.about pass.old.last_tree.items) (slots_of nodes.now.table.about pass.old.next_tree.items) p → ⊥ }
-    requires stands { StandsFrom nodes.now.table.about (slots_of nodes.now.table.about pass.old.next_tree.items) (p + 1) (view pass.old).known pass.old.next_tree.items }
-    ensures rest { AtRest R.roots R.house R.told nodes.now.table.table.shared.table_id nodes.now.table.about pass.new }
+    requires inner { (2 ≤ p) × (p < nodes.now.about.slots) }
+    requires same { IsChanged nodes.now.about.slots (slots_of nodes.now.about pass.old.last_tree.items) (slots_of nodes.now.about pass.old.next_tree.items) p → ⊥ }
+    requires stands { StandsFrom nodes.now.about (slots_of nodes.now.about pass.old.next_tree.items) (p + 1) (view pass.old).known pass.old.next_tree.items }
+    ensures rest { AtRest R.part nodes.now pass.new }
     ensures tree { pass.new ≡ record pass.old { next_tree = pass.new.next_tree } }
-    ensures vector { slots_of nodes.now.table.about pass.new.next_tree.items ≡ slots_of nodes.now.table.about pass.old.next_tree.items }
-    ensures stands { StandsFrom nodes.now.table.about (slots_of nodes.now.table.about pass.old.next_tree.items) p (view pass.old).known pass.new.next_tree.items }
+    ensures vector { slots_of nodes.now.about pass.new.next_tree.items ≡ slots_of nodes.now.about pass.old.next_tree.items }
+    ensures stands { StandsFrom nodes.now.about (slots_of nodes.now.about pass.old.next_tree.items) p (view pass.old).known pass.new.next_tree.items }
 {
     let _ = nodes;
     pass.next_tree[p] = pass.last_tree[p];
@@ -70,17 +70,17 @@ pub(crate) fn put_all<R: RootPart<W, F>, L: Ledger, const W: u32, const F: u32>(
     slots: usize,
     steps: &mut Steps<L>,
 ) -> Result<(), NodesFull>
-    requires rest { AtRest R.roots R.house R.told nodes.now.table.table.shared.table_id nodes.now.table.about pass.old }
-    requires slots { slots ≡ nodes.now.table.about.slots }
-    requires vector { IsVector nodes.now.table.about (slots_of nodes.now.table.about pass.old.next_tree.items) }
-    requires leaves { StandsFrom nodes.now.table.about (slots_of nodes.now.table.about pass.old.next_tree.items) slots (view pass.old).known pass.old.next_tree.items }
-    ensures rest { AtRest R.roots R.house R.told nodes.now.table.table.shared.table_id nodes.now.table.about pass.new }
+    requires rest { AtRest R.part nodes.now pass.old }
+    requires slots { slots ≡ nodes.now.about.slots }
+    requires vector { IsVector nodes.now.about (slots_of nodes.now.about pass.old.next_tree.items) }
+    requires leaves { StandsFrom nodes.now.about (slots_of nodes.now.about pass.old.next_tree.items) slots (view pass.old).known pass.old.next_tree.items }
+    ensures rest { AtRest R.part nodes.now pass.new }
     ensures keeps { KeepsLast pass.old pass.new }
-    ensures vector { slots_of nodes.now.table.about pass.new.next_tree.items ≡ slots_of nodes.now.table.about pass.old.next_tree.items }
-    ensures stands { IfOk result (λ done. StandsFrom nodes.now.table.about (slots_of nodes.now.table.about pass.old.next_tree.items) 2 (view pass.new).known pass.new.next_tree.items) }
-    ensures put { IfOk result (λ done. Building nodes.now.table.about (slots_of nodes.now.table.about pass.old.next_tree.items) (slots - 2) (view pass.old) (view pass.new)) }
+    ensures vector { slots_of nodes.now.about pass.new.next_tree.items ≡ slots_of nodes.now.about pass.old.next_tree.items }
+    ensures stands { IfOk result (λ done. StandsFrom nodes.now.about (slots_of nodes.now.about pass.old.next_tree.items) 2 (view pass.new).known pass.new.next_tree.items) }
+    ensures put { IfOk result (λ done. Building nodes.now.about (slots_of nodes.now.about pass.old.next_tree.items) (slots - 2) (view pass.old) (view pass.new)) }
     ensures ticks { IfOk result (λ done. L.count steps.new ≡ raised (slots - 2) (L.count steps.old)) }
-    ensures full { OnErr result (Refused nodes.now.table.about (slots_of nodes.now.table.about pass.old.next_tree.items) (slots - 2) (view pass.old) (view pass.new)) }
+    ensures full { OnErr result (Refused nodes.now.about (slots_of nodes.now.about pass.old.next_tree.items) (slots - 2) (view pass.old) (view pass.new)) }
     ensures full_ticks { OnErr result (RaisedWithin (slots - 2) (L.count steps.old) (L.count steps.new)) }
 {
     for i in 2..slots {
@@ -99,20 +99,20 @@ fn put_or_keep<R: RootPart<W, F>, L: Ledger, const W: u32, const F: u32>(
     p: usize,
     steps: &mut Steps<L>,
 ) -> Result<(), NodesFull>
-    requires rest { AtRest R.roots R.house R.told nodes.now.table.table.shared.table_id nodes.now.table.about pass.old }
+    requires rest { AtRest R.part nodes.now pass.old }
     requires last { pass.old.has_last ≡ true }
-    requires inner { (2 ≤ p) × (p < nodes.now.table.about.slots) }
-    requires vector { IsVector nodes.now.table.about (slots_of nodes.now.table.about pass.old.next_tree.items) }
-    requires marks { MarksChanges nodes.now.table.about pass.old.marks.items pass.old.last_tree.items pass.old.next_tree.items }
-    requires stands { StandsFrom nodes.now.table.about (slots_of nodes.now.table.about pass.old.next_tree.items) (p + 1) (view pass.old).known pass.old.next_tree.items }
-    ensures rest { AtRest R.roots R.house R.told nodes.now.table.table.shared.table_id nodes.now.table.about pass.new }
+    requires inner { (2 ≤ p) × (p < nodes.now.about.slots) }
+    requires vector { IsVector nodes.now.about (slots_of nodes.now.about pass.old.next_tree.items) }
+    requires marks { MarksChanges nodes.now.about pass.old.marks.items pass.old.last_tree.items pass.old.next_tree.items }
+    requires stands { StandsFrom nodes.now.about (slots_of nodes.now.about pass.old.next_tree.items) (p + 1) (view pass.old).known pass.old.next_tree.items }
+    ensures rest { AtRest R.part nodes.now pass.new }
     ensures keeps { KeepsLast pass.old pass.new }
-    ensures vector { slots_of nodes.now.table.about pass.new.next_tree.items ≡ slots_of nodes.now.table.about pass.old.next_tree.items }
+    ensures vector { slots_of nodes.now.about pass.new.next_tree.items ≡ slots_of nodes.now.about pass.old.next_tree.items }
     ensures marks { pass.new.marks ≡ pass.old.marks }
-    ensures stands { IfOk result (λ done. StandsFrom nodes.now.table.about (slots_of nodes.now.table.about pass.old.next_tree.items) p (view pass.new).known pass.new.next_tree.items) }
-    ensures put { IfOk result (λ done. Building nodes.now.table.about (slots_of nodes.now.table.about pass.old.next_tree.items) (mark_at pass.old.marks.items p) (view pass.old) (view pass.new)) }
+    ensures stands { IfOk result (λ done. StandsFrom nodes.now.about (slots_of nodes.now.about pass.old.next_tree.items) p (view pass.new).known pass.new.next_tree.items) }
+    ensures put { IfOk result (λ done. Building nodes.now.about (slots_of nodes.now.about pass.old.next_tree.items) (mark_at pass.old.marks.items p) (view pass.old) (view pass.new)) }
     ensures ticks { IfOk result (λ done. L.count steps.new ≡ raised (mark_at pass.old.marks.items p) (L.count steps.old)) }
-    ensures full { OnErr result (IsBlockedInside nodes.now.table.about (view pass.new).known (slots_of nodes.now.table.about pass.old.next_tree.items)) }
+    ensures full { OnErr result (IsBlockedInside nodes.now.about (view pass.new).known (slots_of nodes.now.about pass.old.next_tree.items)) }
     ensures full_puts_none { OnErr result (Probed 1 (view pass.old) (view pass.new)) }
     ensures full_tick { OnErr result (L.count steps.new ≡ option_map counted (L.count steps.old)) }
     ensures full_marked { OnErr result (mark_at pass.old.marks.items p ≡ 1) }
@@ -131,19 +131,19 @@ pub(crate) fn put_marked<R: RootPart<W, F>, L: Ledger, const W: u32, const F: u3
     slots: usize,
     steps: &mut Steps<L>,
 ) -> Result<(), NodesFull>
-    requires rest { AtRest R.roots R.house R.told nodes.now.table.table.shared.table_id nodes.now.table.about pass.old }
-    requires slots { slots ≡ nodes.now.table.about.slots }
-    requires vector { IsVector nodes.now.table.about (slots_of nodes.now.table.about pass.old.next_tree.items) }
-    requires leaves { StandsFrom nodes.now.table.about (slots_of nodes.now.table.about pass.old.next_tree.items) slots (view pass.old).known pass.old.next_tree.items }
+    requires rest { AtRest R.part nodes.now pass.old }
+    requires slots { slots ≡ nodes.now.about.slots }
+    requires vector { IsVector nodes.now.about (slots_of nodes.now.about pass.old.next_tree.items) }
+    requires leaves { StandsFrom nodes.now.about (slots_of nodes.now.about pass.old.next_tree.items) slots (view pass.old).known pass.old.next_tree.items }
     requires last { pass.old.has_last ≡ true }
-    requires marks { MarksChanges nodes.now.table.about pass.old.marks.items pass.old.last_tree.items pass.old.next_tree.items }
-    ensures rest { AtRest R.roots R.house R.told nodes.now.table.table.shared.table_id nodes.now.table.about pass.new }
+    requires marks { MarksChanges nodes.now.about pass.old.marks.items pass.old.last_tree.items pass.old.next_tree.items }
+    ensures rest { AtRest R.part nodes.now pass.new }
     ensures keeps { KeepsLast pass.old pass.new }
-    ensures vector { slots_of nodes.now.table.about pass.new.next_tree.items ≡ slots_of nodes.now.table.about pass.old.next_tree.items }
-    ensures stands { IfOk result (λ done. StandsFrom nodes.now.table.about (slots_of nodes.now.table.about pass.old.next_tree.items) 2 (view pass.new).known pass.new.next_tree.items) }
-    ensures put { IfOk result (λ done. Building nodes.now.table.about (slots_of nodes.now.table.about pass.old.next_tree.items) (marks_from 2 pass.old.marks.items) (view pass.old) (view pass.new)) }
+    ensures vector { slots_of nodes.now.about pass.new.next_tree.items ≡ slots_of nodes.now.about pass.old.next_tree.items }
+    ensures stands { IfOk result (λ done. StandsFrom nodes.now.about (slots_of nodes.now.about pass.old.next_tree.items) 2 (view pass.new).known pass.new.next_tree.items) }
+    ensures put { IfOk result (λ done. Building nodes.now.about (slots_of nodes.now.about pass.old.next_tree.items) (marks_from 2 pass.old.marks.items) (view pass.old) (view pass.new)) }
     ensures ticks { IfOk result (λ done. L.count steps.new ≡ raised (marks_from 2 pass.old.marks.items) (L.count steps.old)) }
-    ensures full { OnErr result (Refused nodes.now.table.about (slots_of nodes.now.table.about pass.old.next_tree.items) (marks_from 2 pass.old.marks.items) (view pass.old) (view pass.new)) }
+    ensures full { OnErr result (Refused nodes.now.about (slots_of nodes.now.about pass.old.next_tree.items) (marks_from 2 pass.old.marks.items) (view pass.old) (view pass.new)) }
     ensures full_ticks { OnErr result (RaisedWithin (marks_from 2 pass.old.marks.items) (L.count steps.old) (L.count steps.new)) }
 {
     for i in 2..slots {
@@ -176,18 +176,18 @@ pub(crate) fn put_nodes<R: RootPart<W, F>, L: Ledger, const W: u32, const F: u32
     from_last: bool,
     steps: &mut Steps<L>,
 ) -> Result<(), NodesFull>
-    requires rest { AtRest R.roots R.house R.told nodes.now.table.table.shared.table_id nodes.now.table.about pass.old }
-    requires shape { shape.now ≡ nodes.now.table.about.slots }
-    requires vector { IsVector nodes.now.table.about (slots_of nodes.now.table.about pass.old.next_tree.items) }
-    requires leaves { StandsFrom nodes.now.table.about (slots_of nodes.now.table.about pass.old.next_tree.items) shape.now (view pass.old).known pass.old.next_tree.items }
-    ensures rest { AtRest R.roots R.house R.told nodes.now.table.table.shared.table_id nodes.now.table.about pass.new }
+    requires rest { AtRest R.part nodes.now pass.old }
+    requires shape { shape.now ≡ nodes.now.about.slots }
+    requires vector { IsVector nodes.now.about (slots_of nodes.now.about pass.old.next_tree.items) }
+    requires leaves { StandsFrom nodes.now.about (slots_of nodes.now.about pass.old.next_tree.items) shape.now (view pass.old).known pass.old.next_tree.items }
+    ensures rest { AtRest R.part nodes.now pass.new }
     ensures keeps { KeepsLast pass.old pass.new }
-    ensures vector { slots_of nodes.now.table.about pass.new.next_tree.items ≡ slots_of nodes.now.table.about pass.old.next_tree.items }
-    ensures stands { IfOk result (λ done. StandsFrom nodes.now.table.about (slots_of nodes.now.table.about pass.old.next_tree.items) 2 (view pass.new).known pass.new.next_tree.items) }
-    ensures put { IfOk result (λ done. let v = slots_of nodes.now.table.about pass.old.next_tree.items in Building nodes.now.table.about v (puts_after nodes.now.table.about (compared from_last pass.old) v) (view pass.old) (view pass.new)) }
-    ensures ticks { IfOk result (λ done. L.count steps.new ≡ raised (puts_after nodes.now.table.about (compared from_last pass.old) (slots_of nodes.now.table.about pass.old.next_tree.items)) (L.count steps.old)) }
-    ensures full { OnErr result (let v = slots_of nodes.now.table.about pass.old.next_tree.items in Refused nodes.now.table.about v (puts_after nodes.now.table.about (compared from_last pass.old) v) (view pass.old) (view pass.new)) }
-    ensures full_ticks { OnErr result (RaisedWithin (puts_after nodes.now.table.about (compared from_last pass.old) (slots_of nodes.now.table.about pass.old.next_tree.items)) (L.count steps.old) (L.count steps.new)) }
+    ensures vector { slots_of nodes.now.about pass.new.next_tree.items ≡ slots_of nodes.now.about pass.old.next_tree.items }
+    ensures stands { IfOk result (λ done. StandsFrom nodes.now.about (slots_of nodes.now.about pass.old.next_tree.items) 2 (view pass.new).known pass.new.next_tree.items) }
+    ensures put { IfOk result (λ done. let v = slots_of nodes.now.about pass.old.next_tree.items in Building nodes.now.about v (puts_after nodes.now.about (compared from_last pass.old) v) (view pass.old) (view pass.new)) }
+    ensures ticks { IfOk result (λ done. L.count steps.new ≡ raised (puts_after nodes.now.about (compared from_last pass.old) (slots_of nodes.now.about pass.old.next_tree.items)) (L.count steps.old)) }
+    ensures full { OnErr result (let v = slots_of nodes.now.about pass.old.next_tree.items in Refused nodes.now.about v (puts_after nodes.now.about (compared from_last pass.old) v) (view pass.old) (view pass.new)) }
+    ensures full_ticks { OnErr result (RaisedWithin (puts_after nodes.now.about (compared from_last pass.old) (slots_of nodes.now.about pass.old.next_tree.items)) (L.count steps.old) (L.count steps.new)) }
 {
     if from_last && pass.has_last {
         let _ = mark_changes(pass, shape);

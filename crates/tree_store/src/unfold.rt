@@ -5,7 +5,7 @@ ghost use Rattle.tree_shape.specs.Tree.{RootStands};
 ghost use Rattle.tdb_base.specs.History.{Vector};
 ghost use Rattle.pair_rule.specs.Rest.{AtRest, view};
 ghost use Rattle.pair_nodes.specs.Probe.{Probed};
-ghost use Rattle.root_plain.specs.Probe.{IsSomeRoot};
+ghost use Rattle.pair_rule.specs.Calls.{IsSomeRoot};
 ghost use Rattle.tree_store.specs.Vectors.{StandsTo, KeepsLast};
 
 use pair_nodes::Nodes;
@@ -30,13 +30,13 @@ fn open_position<R: RootPart<W, F>, const W: u32, const F: u32>(
     pass: &mut Pass<R, W, F>,
     p: usize,
 )
-    requires rest { AtRest R.roots R.house R.told nodes.now.table.table.shared.table_id nodes.now.table.about pass.old }
-    requires inner { (2 ≤ p) × (p < nodes.now.table.about.slots) }
-    requires stands { (v : Vector) × StandsTo nodes.now.table.about v (2 * p) (view pass.old).known pass.old.next_tree.items }
-    ensures rest { AtRest R.roots R.house R.told nodes.now.table.table.shared.table_id nodes.now.table.about pass.new }
+    requires rest { AtRest R.part nodes.now pass.old }
+    requires inner { (2 ≤ p) × (p < nodes.now.about.slots) }
+    requires stands { (v : Vector) × StandsTo nodes.now.about v (2 * p) (view pass.old).known pass.old.next_tree.items }
+    ensures rest { AtRest R.part nodes.now pass.new }
     ensures keeps { KeepsLast pass.old pass.new }
     ensures puts_none { Probed 0 (view pass.old) (view pass.new) }
-    ensures stands { (v : Vector) → StandsTo nodes.now.table.about v (2 * p) (view pass.old).known pass.old.next_tree.items → StandsTo nodes.now.table.about v (2 * p + 2) (view pass.new).known pass.new.next_tree.items }
+    ensures stands { (v : Vector) → StandsTo nodes.now.about v (2 * p) (view pass.old).known pass.old.next_tree.items → StandsTo nodes.now.about v (2 * p + 2) (view pass.new).known pass.new.next_tree.items }
 {
     let index = pass.next_tree[p] as u64;
     let (left, right) = nodes.pair_at(pass, index);
@@ -49,13 +49,13 @@ fn open_all<R: RootPart<W, F>, const W: u32, const F: u32>(
     pass: &mut Pass<R, W, F>,
     slots: usize,
 )
-    requires rest { AtRest R.roots R.house R.told nodes.now.table.table.shared.table_id nodes.now.table.about pass.old }
-    requires slots { slots ≡ nodes.now.table.about.slots }
-    requires stands { (v : Vector) × StandsTo nodes.now.table.about v 4 (view pass.old).known pass.old.next_tree.items }
-    ensures rest { AtRest R.roots R.house R.told nodes.now.table.table.shared.table_id nodes.now.table.about pass.new }
+    requires rest { AtRest R.part nodes.now pass.old }
+    requires slots { slots ≡ nodes.now.about.slots }
+    requires stands { (v : Vector) × StandsTo nodes.now.about v 4 (view pass.old).known pass.old.next_tree.items }
+    ensures rest { AtRest R.part nodes.now pass.new }
     ensures keeps { KeepsLast pass.old pass.new }
     ensures puts_none { Probed 0 (view pass.old) (view pass.new) }
-    ensures stands { (v : Vector) → StandsTo nodes.now.table.about v 4 (view pass.old).known pass.old.next_tree.items → StandsTo nodes.now.table.about v (2 * slots) (view pass.new).known pass.new.next_tree.items }
+    ensures stands { (v : Vector) → StandsTo nodes.now.about v 4 (view pass.old).known pass.old.next_tree.items → StandsTo nodes.now.about v (2 * slots) (view pass.new).known pass.new.next_tree.items }
 {
     for p in 2..slots {
         open_position(nodes, pass, p);
@@ -80,14 +80,14 @@ pub(crate) fn unfold<R: RootPart<W, F>, const W: u32, const F: u32>(
     right: u64,
     out: &mut [u32],
 )
-    requires rest { AtRest R.roots R.house R.told nodes.now.table.table.shared.table_id nodes.now.table.about pass.old }
-    requires parts { (left < 2 ^ W) × (right < 2 ^ W) }
-    requires stands { IsSomeRoot nodes.now.table.about (view pass.old).known (pair_of W left right) }
-    requires out { length out.old ≡ nodes.now.table.about.slots }
-    ensures rest { AtRest R.roots R.house R.told nodes.now.table.table.shared.table_id nodes.now.table.about pass.new }
+    requires rest { AtRest R.part nodes.now pass.old }
+    requires parts { (left < 2 ^ nodes.now.about.width) × (right < 2 ^ nodes.now.about.width) }
+    requires stands { IsSomeRoot nodes.now.about (view pass.old).known (pair_of nodes.now.about.width left right) }
+    requires out { length out.old ≡ nodes.now.about.slots }
+    ensures rest { AtRest R.part nodes.now pass.new }
     ensures keeps { KeepsLast pass.old pass.new }
     ensures puts_none { Probed 0 (view pass.old) (view pass.new) }
-    ensures vector { let about = nodes.now.table.about in (v : Vector) → RootStands about.width about.slots (view pass.old).known (pair_of W left right) v → length v ≡ about.slots → out.new ≡ v }
+    ensures vector { let about = nodes.now.about in (v : Vector) → RootStands about.width about.slots (view pass.old).known (pair_of nodes.now.about.width left right) v → length v ≡ about.slots → out.new ≡ v }
 {
     let slots = nodes.table().slots();
     note_parts(pass, 1, left, right);

@@ -9,7 +9,7 @@ use Rattle.tree_store.proofs.tree.keep_position.Goals as goal
 
 pub returns-clause-stands : goal.returns-clause-stands
 returns-clause-stands g c =
-    let about = c.args.nodes.now.table.about in
+    let about = c.args.nodes.now.about in
     let r = c.requires in
     let nodes = (view c.args.pass.now).known in
     let last = c.args.pass.now.last_tree.items in

@@ -7,7 +7,7 @@ use Rattle.tree_store.proofs.tree.put_all.Goals as goal
 
 pub loop-i-init : goal.loop-i-init
 loop-i-init g c =
-    let about = c.args.nodes.now.table.about in
+    let about = c.args.nodes.now.about in
     let vec = slots_of about c.args.pass.now.next_tree.items in
     let start : (c.args.slots + 2) - 2 ≡ c.args.slots = omega arith in
     record {
@@ -21,7 +21,7 @@ loop-i-init g c =
 
 pub returns-in_default-clause-full : goal.returns-in_default-clause-full
 returns-in_default-clause-full g c =
-    let about = c.args.nodes.now.table.about in
+    let about = c.args.nodes.now.about in
     let vec = slots_of about c.args.pass.now.next_tree.items in
     let i = c.loop-i.invariant in
     let e = c.in_default.ensures in
@@ -35,7 +35,7 @@ returns-in_default-clause-full_ticks g c =
 
 pub loop-i-preserved : goal.loop-i-preserved
 loop-i-preserved g c =
-    let about = c.args.nodes.now.table.about in
+    let about = c.args.nodes.now.about in
     let vec = slots_of about c.args.pass.now.next_tree.items in
     let i = c.loop-i.invariant in
     let e = c.in-Ok.ensures in

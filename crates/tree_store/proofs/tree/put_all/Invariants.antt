@@ -5,10 +5,10 @@ use Rattle.tree_store.proofs.tree.put_all.Given as goal
 
 abbrev pub invariant-loop-i : goal.invariant-loop-i
 invariant-loop-i g l = record {
-  rest : AtRest g.R.RootPart.roots g.R.RootPart.house g.R.RootPart.told l.nodes.table.table.shared.table_id l.nodes.table.about l.pass;
+  rest : AtRest g.R.RootPart.part l.nodes l.pass;
   keeps : KeepsLast l.initial.pass l.pass;
-  vector : slots_of l.nodes.table.about l.pass.next_tree.items ≡ slots_of l.nodes.table.about l.initial.pass.next_tree.items;
-  stands : StandsFrom l.nodes.table.about (slots_of l.nodes.table.about l.initial.pass.next_tree.items) (l.slots + 2 - l.i) (view l.pass).known l.pass.next_tree.items;
-  put : Building l.nodes.table.about (slots_of l.nodes.table.about l.initial.pass.next_tree.items) (l.i - 2) (view l.initial.pass) (view l.pass);
+  vector : slots_of l.nodes.about l.pass.next_tree.items ≡ slots_of l.nodes.about l.initial.pass.next_tree.items;
+  stands : StandsFrom l.nodes.about (slots_of l.nodes.about l.initial.pass.next_tree.items) (l.slots + 2 - l.i) (view l.pass).known l.pass.next_tree.items;
+  put : Building l.nodes.about (slots_of l.nodes.about l.initial.pass.next_tree.items) (l.i - 2) (view l.initial.pass) (view l.pass);
   ticks : g.L.Ledger.count l.steps ≡ raised (l.i - 2) (g.L.Ledger.count l.initial.steps);
 }

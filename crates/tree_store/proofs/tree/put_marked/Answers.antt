@@ -8,7 +8,7 @@ use Rattle.tree_store.proofs.tree.put_marked.Goals as goal
 
 pub returns-in_default-clause-full : goal.returns-in_default-clause-full
 returns-in_default-clause-full g c =
-    let about = c.args.nodes.now.table.about in
+    let about = c.args.nodes.now.about in
     let vec = slots_of about c.args.pass.now.next_tree.items in
     let marks = c.args.pass.now.marks.items in
     let i = c.loop-i.invariant in
@@ -39,7 +39,7 @@ returns-in_default-clause-full_ticks g c =
 
 pub loop-i-preserved : goal.loop-i-preserved
 loop-i-preserved g c =
-    let about = c.args.nodes.now.table.about in
+    let about = c.args.nodes.now.about in
     let vec = slots_of about c.args.pass.now.next_tree.items in
     let marks = c.args.pass.now.marks.items in
     let i = c.loop-i.invariant in
@@ -68,8 +68,8 @@ loop-i-preserved g c =
 
 pub returns-clause-put : goal.returns-clause-put
 returns-clause-put g c =
-    let about = c.args.nodes.now.table.about in
+    let about = c.args.nodes.now.about in
     let i = c.loop-i.invariant in
-    let slots = c.args.nodes.now.table.slots in
+    let slots = c.requires.rest.seat.is_about.range.least_slots in
     let done : (c.args.slots + 2) - c.loop-i.i ≡ 2 = omega (arith, c.loop-i-test.false, slots, c.requires.slots) in
     subst (λ (n : ℕ). Building about (slots_of about c.args.pass.now.next_tree.items) (marks_from n c.args.pass.now.marks.items) (view c.args.pass.now) (view c.loop-i.pass)) done i.put

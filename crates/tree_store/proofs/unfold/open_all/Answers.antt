@@ -7,7 +7,7 @@ use Rattle.tree_store.proofs.unfold.open_all.Goals as goal
 
 pub loop-p-preserved : goal.loop-p-preserved
 loop-p-preserved g c =
-    let about = c.args.nodes.now.table.about in
+    let about = c.args.nodes.now.about in
     let i = c.loop-p.invariant in
     let e = c.open_position.ensures in
     let q = c.open_position.new.pass in

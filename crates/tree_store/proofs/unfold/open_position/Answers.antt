@@ -1,4 +1,4 @@
-use Rattle.std.proofs.Common.{arith, ◌+◌, ◌*◌, ◌∙◌, sym, subst, ap, set}
+use Rattle.std.proofs.Common.{arith, ◌+◌, ◌*◌, ◌∙◌, refl, sym, subst, ap, set}
 use Rattle.tree_shape.proofs.Trees.{at_pair, stands_more}
 use Rattle.pair_rule.specs.Rest.{view}
 use Rattle.tree_store.specs.Vectors.{StandsTo}
@@ -7,7 +7,7 @@ use Rattle.tree_store.proofs.unfold.open_position.Goals as goal
 
 pub pair_at-left-requires : goal.pair_at-left-requires
 pair_at-left-requires g c =
-    let about = c.args.nodes.now.table.about in
+    let about = c.args.nodes.now.about in
     let r = c.requires in
     let nodes = (view c.args.pass.now).known in
     let tree = c.args.pass.now.next_tree.items in
@@ -19,7 +19,7 @@ pair_at-left-requires g c =
 
 pub returns-clause-stands : goal.returns-clause-stands
 returns-clause-stands g c = λ v stands.
-    let t = c.args.nodes.now.table in
+    let t = c.args.nodes.now in
     let about = t.about in
     let r = c.requires in
     let u = view c.args.pass.now in
@@ -31,7 +31,7 @@ returns-clause-stands g c = λ v stands.
     let left = c.pair_at-left.result.0 in
     let right = c.pair_at-left.result.1 in
     let number = opened_number about v u.known tree (2 * p) p x (omega (arith, r.rest.next_length, r.inner)) r.inner.0 (omega (arith, r.inner)) stands c.index.ensures in
-    let both = opened_parts about g.row.W t.width v u.known left right e.parts.1 p x r.rest.seat.sound.nodes.naming r.inner.1 number e.pair in
+    let both = opened_parts about about.width refl v u.known left right e.parts.1 p x r.rest.seat.sound.nodes.naming r.inner.1 number e.pair in
     let part = e.puts_none.grown.known in
     let more = stands_to_more about v p left right u.known w.known tree (omega (arith, r.rest.next_length, r.inner)) part
     (stands_more about.width about.slots u.known w.known v (2 * p) left part both.0, stands_more about.width about.slots u.known w.known v (2 * p + 1) right part both.1) stands in

@@ -4,8 +4,8 @@ use Rattle.tree_store.proofs.counts.TreeStore+PlainRoot+W+F+W+F.raw_bytes.Goals 
 
 pub overflow_mul-result-2 : goal.overflow_mul-result-2
 overflow_mul-result-2 g c =
-    let t = c.args.self.now.nodes.table in
-    let few = few_plain_names t.table.shared.table_id t.about c.args.pass.now c.requires.rest in
+    let t = c.args.self.now in
+    let few = few_plain_names t c.args.pass.now c.requires.rest in
     let made = c.names_made.ensures.made in
     let count = c.requires.rest.names_count in
     let range = c.slots.ensures.range in
