@@ -55,8 +55,11 @@ module _ {T : Type 0} (part : Part T) (store : Store) where
     pub no_call : Caught part [] (view old) (view new)
     pub buffers : new ≡ record old { seat = new.seat }
 
--- where there is no place for a root, its vector has no name in any history that is seen later
-abbrev pub FullForGood : {T : Type 0} → Part T → Type 0
-FullForGood {T} part = (store : Store) (p q : PassOf T) (pair : ℕ) (v : Vector) → AtRest part store p → AtRest part store q
-    → IsPart (view p).known (view q).known → IsPart (root_pairs part (view p)) (root_pairs part (view q))
-    → RootStands store.about.width store.about.slots (view p).known pair v → part.is_full store.about (root_pairs part (view p)) pair → name_of (view q).seen v ≡ None
+-- What a refusal is good for, whoever is refused: there is no place later either, and the root's vector has no name in any history that is seen later.
+pub record Refusals {T : Type 0} (part : Part T) : Type 0 where
+  pub stay : (store : Store) (p q : PassOf T) (pair : ℕ) → AtRest part store p → AtRest part store q
+      → IsPart (view p).known (view q).known → IsPart (root_pairs part (view p)) (root_pairs part (view q))
+      → part.is_full store.about (root_pairs part (view p)) pair → part.is_full store.about (root_pairs part (view q)) pair
+  pub for_good : (store : Store) (p q : PassOf T) (pair : ℕ) (v : Vector) → AtRest part store p → AtRest part store q
+      → IsPart (view p).known (view q).known → IsPart (root_pairs part (view p)) (root_pairs part (view q))
+      → RootStands store.about.width store.about.slots (view p).known pair v → part.is_full store.about (root_pairs part (view p)) pair → name_of (view q).seen v ≡ None

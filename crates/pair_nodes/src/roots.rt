@@ -12,7 +12,7 @@ pub trait RootTable<const W: u32, const F: u32> {
     ghost use Rattle.pair_rule.specs.Part.{Store};
     ghost use Rattle.pair_rule.specs.Rest.{AtRest, view};
     ghost use Rattle.pair_rule.specs.Calls.{IsSomeRoot};
-    ghost use Rattle.pair_nodes.specs.Roots.{RootPut, RootRefused, RootFound, RootUnknown, RootRead, FullForGood};
+    ghost use Rattle.pair_nodes.specs.Roots.{RootPut, RootRefused, RootFound, RootUnknown, RootRead, Refusals};
 
     /// What the root table adds to the rule.
     type Part: RootPart<W, F>;
@@ -51,6 +51,6 @@ pub trait RootTable<const W: u32, const F: u32> {
         requires named { (vector : Vector) × (name_of (view pass.old).seen vector ≡ Some id) }
         ensures { RootRead Self.Part.part (store self.now) id result pass.old pass.new };
 
-    // A root that was refused has no name for good.
-    ghost full_for_good: { FullForGood Self.Part.part };
+    // A refusal lasts.
+    ghost refusals: { Refusals Self.Part.part };
 }

@@ -10,6 +10,7 @@ use Rattle.pair_rule.specs.Part.{Store}
 use Rattle.pair_rule.specs.Paths.{root_buckets, bucket, Blocked}
 use Rattle.pair_rule.specs.Rest.{AtRest, view}
 use Rattle.pair_rule.proofs.Names.{root_more}
+use Rattle.pair_nodes.specs.Roots.{Refusals}
 use Rattle.root_plain.specs.declared.root.Roots.{Roots}
 use Rattle.root_plain.specs.Plain.{Lies, plain}
 
@@ -55,3 +56,8 @@ never_named store p q pair v rp rq known roots stands blocked = by (name_of (vie
         let there : Has (id, other.0) (view q).root.roots = subst (λ (i : ℕ). Has (i, other.0) (view q).root.roots) here (roots (bucket (root_buckets store.about) pair l.step) other.0 other.1) in
         absurd (other.2 ((roots_naming store q rq).one_pair id other.0 k.0 there k.1 ∙ one))
 
+pub plain_refusals : Refusals plain
+plain_refusals = record {
+  stay = λ store p q pair rp rq known roots blocked step lt. (let o = blocked step lt in (o.0, roots _ o.0 o.1, o.2));
+  for_good = never_named;
+}

@@ -31,7 +31,7 @@ impl<'a, const W: u32, const F: u32> PlainTable<'a, W, F> {
 }
 
 impl<'a, const W: u32, const F: u32> RootTable<W, F> for PlainTable<'a, W, F> {
-    ghost use Rattle.root_plain.specs.Refused.{never_named};
+    ghost use Rattle.root_plain.specs.Refused.{plain_refusals};
 
     type Part = PlainRoot<W, F>;
 
@@ -74,5 +74,5 @@ impl<'a, const W: u32, const F: u32> RootTable<W, F> for PlainTable<'a, W, F> {
         root_pair(self.nodes, pass, id)
     }
 
-    ghost full_for_good = { never_named };
+    ghost refusals = { plain_refusals };
 }

@@ -12,7 +12,7 @@ use Rattle.pair_rule.specs.Paths.{node_buckets, bucket}
 use Rattle.pair_rule.specs.Part.{Store, Part}
 use Rattle.pair_rule.specs.Rest.{AtRest, view}
 use Rattle.tdb_base.proofs.NameLemmas.{names-differ}
-use Rattle.pair_nodes.specs.Roots.{FullForGood}
+use Rattle.pair_nodes.specs.Roots.{Refusals}
 use Rattle.tree_store.specs.Vectors.{IsBlockedInside}
 use Rattle.tree_store.specs.Store.{HasBlockedRoot, NeverNamed}
 use Rattle.tree_store.proofs.Positions.{nodes_of}
@@ -82,5 +82,5 @@ inside_never_named part store p v b q rq known roots = by (name_of (view q).seen
 
 
 -- and not where its root has none
-pub root_never_named : {T : Type 0} (part : Part T) → FullForGood part → (store : Store) (p : PassOf T) (v : Vector) → AtRest part store p → HasBlockedRoot part store.about (view p) v → NeverNamed part store p v
-root_never_named part for_good store p v rp b q rq known roots = for_good store p q b.0 v rp rq known roots b.1 b.2
+pub root_never_named : {T : Type 0} (part : Part T) → Refusals part → (store : Store) (p : PassOf T) (v : Vector) → AtRest part store p → HasBlockedRoot part store.about (view p) v → NeverNamed part store p v
+root_never_named part refusals store p v rp b q rq known roots = refusals.for_good store p q b.0 v rp rq known roots b.1 b.2

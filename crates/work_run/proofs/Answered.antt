@@ -1,7 +1,6 @@
 -- What one line's insertion leaves, and several lines' one after the other.
 use Rattle.std.proofs.Common.{◌≡◌, ◌⊎◌, ℕ, zero, suc, ◌+◌, ◌≤◌, List, [], ◌∷◌, ◌++◌, length, Bool, true, false, Option, Some, refl, sym, ap, ◌∙◌, subst, inl, inr, ⊎_elim, arith, append-nil, append_assoc, length-append, eq-eqb}
 use Rattle.std.specs.Prelude.{slice_get}
-use Rattle.atomic_table.specs.Seated.{TableId}
 use Rattle.tree_shape.specs.Tree.{Has, IsPart}
 use Rattle.tree_shape.proofs.Trees.{stands_more}
 use Rattle.tdb_base.specs.Agrees.{told}
@@ -14,13 +13,14 @@ use Rattle.tdb_base.proofs.PickLemmas.{told_push}
 use Rattle.pair_rule.specs.declared.sizes.About.{About}
 use Rattle.pair_rule.specs.declared.pass.PassOf.{PassOf}
 use Rattle.pair_rule.specs.View.{face}
-use Rattle.pair_rule.specs.Rest.{view, last_vector}
+use Rattle.pair_rule.specs.Rest.{AtRest, view, last_vector}
 use Rattle.pair_rule.proofs.Lists.{has_front, has_back, has_either}
 use Rattle.pair_rule.proofs.Histories.{extends_refl, extends_trans, calls_append}
-use Rattle.root_plain.specs.declared.root.Roots.{Roots}
-use Rattle.root_plain.specs.Plays.{Rests, call}
-use Rattle.tree_store.specs.Vectors.{puts_after, Gained, Refused}
-use Rattle.tree_store.specs.Store.{IfNamed, IfFullNodes, IfFullRoots, IfFull, NeverNamed, Advanced, HasBlockedRoot, KeepsLastTree}
+use Rattle.pair_rule.specs.Part.{Store, Part, root_pairs}
+use Rattle.pair_rule.specs.Calls.{call}
+use Rattle.pair_nodes.specs.Roots.{Refusals}
+use Rattle.tree_store.specs.Vectors.{puts_after, Gained}
+use Rattle.tree_store.specs.Store.{NeverNamed, Advanced, KeepsLastTree, IsAnswered}
 use Rattle.work_run.specs.Full.{Barred, IsOfOne}
 use Rattle.work_run.specs.Inserted.{last_after, last_of, puts_of, Inserted}
 
@@ -30,28 +30,29 @@ use Rattle.work_run.specs.Inserted.{last_after, last_of, puts_of, Inserted}
 pub of_one_more : (about : About) (nodes more : List (ℕ × ℕ)) (vectors : List Vector) (index : ℕ) → IsPart nodes more → IsOfOne about nodes vectors index → IsOfOne about more vectors index
 of_one_more about nodes more vectors index part o = (o.0, o.1, (o.2.0, o.2.1, o.2.2, stands_more about.width about.slots nodes more o.0 o.2.0 index part o.2.3))
 
--- a vector stays barred
-pub barred_more : (about : About) (nodes more roots others : List (ℕ × ℕ)) (v : Vector) (reply : Reply) → IsPart nodes more → IsPart roots others → Barred about nodes roots v reply → Barred about more others v reply
-barred_more about nodes more roots others v (r.New id) p q b = tt
-barred_more about nodes more roots others v (r.Seen id) p q b = tt
-barred_more about nodes more roots others v r.FullNodes p q b = record {
+-- a vector stays barred, for passes that know more
+pub barred_more : {T : Type 0} (part : Part T) → Refusals part → (store : Store) (p q : PassOf T) (v : Vector) (reply : Reply) → AtRest part store p → AtRest part store q → IsPart (view p).known (view q).known
+    → IsPart (root_pairs part (view p)) (root_pairs part (view q)) → Barred part store.about (view p).known (root_pairs part (view p)) v reply → Barred part store.about (view q).known (root_pairs part (view q)) v reply
+barred_more part refusals store p q v (r.New id) rp rq known roots b = tt
+barred_more part refusals store p q v (r.Seen id) rp rq known roots b = tt
+barred_more part refusals store p q v r.FullNodes rp rq known roots b = record {
   position = b.position;
   inner = b.inner;
   left = b.left;
   right = b.right;
-  left_stands = stands_more about.width about.slots nodes more v _ b.left p b.left_stands;
-  right_stands = stands_more about.width about.slots nodes more v _ b.right p b.right_stands;
-  blocked = λ step lt. (let o = b.blocked step lt in (o.0, p _ o.0 o.1, o.2));
+  left_stands = stands_more store.about.width store.about.slots (view p).known (view q).known v _ b.left known b.left_stands;
+  right_stands = stands_more store.about.width store.about.slots (view p).known (view q).known v _ b.right known b.right_stands;
+  blocked = λ step lt. (let o = b.blocked step lt in (o.0, known _ o.0 o.1, o.2));
 }
-barred_more about nodes more roots others v r.FullRoots p q b = (
+barred_more part refusals store p q v r.FullRoots rp rq known roots b = (
   b.0,
-  (stands_more about.width about.slots nodes more v _ _ p b.1.0, stands_more about.width about.slots nodes more v _ _ p b.1.1),
-  λ step lt. (let o = b.2 step lt in (o.0, q _ o.0 o.1, o.2)),
+  (stands_more store.about.width store.about.slots (view p).known (view q).known v _ _ known b.1.0, stands_more store.about.width store.about.slots (view p).known (view q).known v _ _ known b.1.1),
+  refusals.stay store p q b.0 rp rq known roots b.2,
 )
 
 -- ---- one line
 
-module _ (table : TableId) (about : About) (v : Vector) (p q : PassOf Roots) where
+module _ {T : Type 0} (part : Part T) (store : Store) (v : Vector) (p q : PassOf T) where
   -- facts of the one line
   only : (P : Vector → Reply → Type 0) (reply : Reply) → P v reply → (i : ℕ) (w : Vector) (s : Reply) → slice_get (v ∷ []) i ≡ Some w → slice_get (reply ∷ []) i ≡ Some s → P w s
   only P reply fact zero w s a b = let e : v ≡ w = cc a in let f : reply ≡ s = cc b in subst (λ (x : Vector). P x s) e (subst (λ (x : Reply). P v x) f fact)
@@ -60,29 +61,29 @@ module _ (table : TableId) (about : About) (v : Vector) (p q : PassOf Roots) whe
   mine_alone : (n : ℕ) (fresh : Bool) (id : ℕ) → calls (call n fresh v id ∷ []) n ≡ call n fresh v id ∷ []
   mine_alone n fresh id = rw (eq-eqb n n refl) refl
 
-  called : (fresh : Bool) (id : ℕ) → Has (view p).number (view p).numbers → Advanced (call (view p).number fresh v id ∷ []) (view p) (view q)
+  called : (fresh : Bool) (id : ℕ) → Has (view p).number (view p).numbers → Advanced part (call (view p).number fresh v id ∷ []) (view p) (view q)
       → calls (view q).seen (view p).number ≡ calls (view p).seen (view p).number ++ call (view p).number fresh v id ∷ []
   called fresh id mine k =
       let n = (view p).number in
       ap (λ (h : History). calls h n) k.seen
       ∙ (calls_append k.log (call n fresh v id ∷ []) n ∙ (λ i. k.own n mine i ++ mine_alone n fresh id i))
 
-  uncalled : Has (view p).number (view p).numbers → Advanced [] (view p) (view q) → calls (view q).seen (view p).number ≡ calls (view p).seen (view p).number ++ []
+  uncalled : Has (view p).number (view p).numbers → Advanced part [] (view p) (view q) → calls (view q).seen (view p).number ≡ calls (view p).seen (view p).number ++ []
   uncalled mine k =
       let n = (view p).number in
       ap (λ (h : History). calls h n) k.seen ∙ (calls_append k.log [] n ∙ (λ i. k.own n mine i ++ []))
 
-  made_by : (most : ℕ) → Gained about v most (view p) (view q) → (i : ℕ) → Has i (view q).made → Has i (view p).made ⊎ IsOfOne about (view q).known (v ∷ []) i
+  made_by : (most : ℕ) → Gained store.about v most (view p) (view q) → (i : ℕ) → Has i (view q).made → Has i (view p).made ⊎ IsOfOne store.about (view q).known (v ∷ []) i
   made_by most g i h = ⊎_elim
       (λ (new : Has i g.more). inr (v, inl refl, g.in_tree i new))
       (λ (old : Has i (view p).made). inl old)
       (has_either i g.more (view p).made (subst (λ (x : List ℕ). Has i x) g.made h))
 
   -- a call that is one entry of the history
-  named_one : (fresh : Bool) (id : ℕ) (reply : Reply) → told (view p).number (v ∷ []) (reply ∷ []) ≡ call (view p).number fresh v id ∷ [] → is_full reply ≡ false → Barred about (view q).known (view q).root.roots v reply
-      → Rests table about p → Rests table about q → Advanced (call (view p).number fresh v id ∷ []) (view p) (view q) → last_vector q ≡ Some v
-      → Gained about v (puts_after about (last_vector p) v) (view p) (view q) → (view q).probes ≡ (view p).probes + puts_after about (last_vector p) v
-      → Inserted table about (v ∷ []) (reply ∷ []) p q
+  named_one : (fresh : Bool) (id : ℕ) (reply : Reply) → told (view p).number (v ∷ []) (reply ∷ []) ≡ call (view p).number fresh v id ∷ [] → is_full reply ≡ false → Barred part store.about (view q).known (root_pairs part (view q)) v reply
+      → AtRest part store p → AtRest part store q → Advanced part (call (view p).number fresh v id ∷ []) (view p) (view q) → last_vector q ≡ Some v
+      → Gained store.about v (puts_after store.about (last_vector p) v) (view p) (view q) → (view q).probes ≡ (view p).probes + puts_after store.about (last_vector p) v
+      → Inserted part store (v ∷ []) (reply ∷ []) p q
   named_one fresh id reply entry named barred rp rq k last gained probes = record {
     one_each = refl;
     rest = rq;
@@ -91,20 +92,20 @@ module _ (table : TableId) (about : About) (v : Vector) (p q : PassOf Roots) whe
     known = k.known;
     roots = k.roots;
     own = called fresh id rp.seat.sound.mine k ∙ ap (λ (h : History). calls (view p).seen (view p).number ++ h) (sym entry);
-    never = only (λ w s. is_full s ≡ true → NeverNamed table about q w) reply (λ t. cc (t, named));
-    barred = only (λ w s. Barred about (view q).known (view q).root.roots w s) reply barred;
-    made = made_by (puts_after about (last_vector p) v) gained;
+    never = only (λ w s. is_full s ≡ true → NeverNamed part store q w) reply (λ t. cc (t, named));
+    barred = only (λ w s. Barred part store.about (view q).known (root_pairs part (view q)) w s) reply barred;
+    made = made_by (puts_after store.about (last_vector p) v) gained;
     last = last ∙ sym (rw named refl);
     probes = omega (arith, probes);
   }
 
   -- a call for which there was no place
-  full_one : (most : ℕ) (reply : Reply) → is_full reply ≡ true → told (view p).number (v ∷ []) (reply ∷ []) ≡ [] → Rests table about p → Rests table about q
-      → face (view q) ≡ face (view p) → Extends (view p).seen (view q).seen → IsPart (view p).known (view q).known → IsPart (view p).root.roots (view q).root.roots
+  full_one : (most : ℕ) (reply : Reply) → is_full reply ≡ true → told (view p).number (v ∷ []) (reply ∷ []) ≡ [] → AtRest part store p → AtRest part store q
+      → face (view q) ≡ face (view p) → Extends (view p).seen (view q).seen → IsPart (view p).known (view q).known → IsPart (root_pairs part (view p)) (root_pairs part (view q))
       → calls (view q).seen (view p).number ≡ calls (view p).seen (view p).number ++ []
-      → Gained about v most (view p) (view q) → (view q).probes ≤ (view p).probes + puts_after about (last_vector p) v
-      → KeepsLastTree p q → NeverNamed table about q v → Barred about (view q).known (view q).root.roots v reply
-      → Inserted table about (v ∷ []) (reply ∷ []) p q
+      → Gained store.about v most (view p) (view q) → (view q).probes ≤ (view p).probes + puts_after store.about (last_vector p) v
+      → KeepsLastTree p q → NeverNamed part store q v → Barred part store.about (view q).known (root_pairs part (view q)) v reply
+      → Inserted part store (v ∷ []) (reply ∷ []) p q
   full_one most reply full entry rp rq face_is seen known roots own gained probes keeps never barred = record {
     one_each = refl;
     rest = rq;
@@ -113,41 +114,31 @@ module _ (table : TableId) (about : About) (v : Vector) (p q : PassOf Roots) whe
     known = known;
     roots = roots;
     own = own ∙ ap (λ (h : History). calls (view p).seen (view p).number ++ h) (sym entry);
-    never = only (λ w s. is_full s ≡ true → NeverNamed table about q w) reply (λ t. never);
-    barred = only (λ w s. Barred about (view q).known (view q).root.roots w s) reply barred;
+    never = only (λ w s. is_full s ≡ true → NeverNamed part store q w) reply (λ t. never);
+    barred = only (λ w s. Barred part store.about (view q).known (root_pairs part (view q)) w s) reply barred;
     made = made_by most gained;
     last = keeps.vector ∙ sym (rw full refl);
     probes = omega (arith, probes);
   }
 
-  pub one_inserted : (reply : Reply) → Rests table about p → Rests table about q
-      → IfNamed reply (λ fresh id. Advanced (call (view p).number fresh v id ∷ []) (view p) (view q))
-      → IfNamed reply (λ fresh id. last_vector q ≡ Some v)
-      → IfNamed reply (λ fresh id. Gained about v (puts_after about (last_vector p) v) (view p) (view q))
-      → IfNamed reply (λ fresh id. (view q).probes ≡ (view p).probes + puts_after about (last_vector p) v)
-      → IfFullNodes reply (Refused about v (puts_after about (last_vector p) v) (view p) (view q))
-      → IfFullRoots reply (HasBlockedRoot about (view q) v)
-      → IfFullRoots reply (Advanced [] (view p) (view q))
-      → IfFullRoots reply (Gained about v (puts_after about (last_vector p) v) (view p) (view q))
-      → IfFullRoots reply ((view q).probes ≡ (view p).probes + puts_after about (last_vector p) v)
-      → IfFull reply (KeepsLastTree p q)
-      → IfFull reply (NeverNamed table about q v)
-      → Inserted table about (v ∷ []) (reply ∷ []) p q
-  one_inserted (r.New id) rp rq k last gained probes a b c d e f g = named_one true id (r.New id) refl refl tt rp rq k last gained probes
-  one_inserted (r.Seen id) rp rq k last gained probes a b c d e f g = named_one false id (r.Seen id) refl refl tt rp rq k last gained probes
-  one_inserted r.FullNodes rp rq k last gained probes a b c d e f g =
-      let w = a.grown in
-      let few : (view q).probes ≤ (view p).probes + puts_after about (last_vector p) v = omega (arith, a.probes_are, a.fewer) in
-      full_one a.puts r.FullNodes refl refl rp rq w.face_is
+  pub one_inserted : (reply : Reply) → AtRest part store p → AtRest part store q → IsAnswered part store (last_vector p) v reply p q → Inserted part store (v ∷ []) (reply ∷ []) p q
+  one_inserted (r.New id) rp rq a = named_one true id (r.New id) refl refl tt rp rq a.call_is a.last_is a.nodes a.probes
+  one_inserted (r.Seen id) rp rq a = named_one false id (r.Seen id) refl refl tt rp rq a.call_is a.last_is a.nodes a.probes
+  one_inserted r.FullNodes rp rq a =
+      let n = a.refused in
+      let w = n.grown in
+      let few : (view q).probes ≤ (view p).probes + puts_after store.about (last_vector p) v = omega (arith, n.probes_are, n.fewer) in
+      full_one n.puts r.FullNodes refl refl rp rq w.face_is
       (subst (λ (h : History). Extends (view p).seen h) (sym w.seen) (extends_refl (view p).seen)) w.known
-      (subst (λ (t : Roots). IsPart (view p).root.roots t.roots) (sym w.root) (λ i x h. h))
+      (subst (λ (pairs : List (ℕ × ℕ)). IsPart (root_pairs part (view p)) pairs) (λ i. part.roots (sym w.about i) (sym w.seen i) (sym w.root i)) (λ i x h. h))
       (ap (λ (h : History). calls h (view p).number) w.seen ∙ sym (append-nil (calls (view p).seen (view p).number)))
-      a.gained few f g a.blocked
-  one_inserted r.FullRoots rp rq k last gained probes a b c d e f g =
-      let few : (view q).probes ≤ (view p).probes + puts_after about (last_vector p) v = omega (arith, e) in
-      full_one (puts_after about (last_vector p) v) r.FullRoots refl refl rp rq c.face_is
+      n.gained few a.last_stays a.for_good n.blocked
+  one_inserted r.FullRoots rp rq a =
+      let c = a.no_call in
+      let few : (view q).probes ≤ (view p).probes + puts_after store.about (last_vector p) v = omega (arith, a.probes) in
+      full_one (puts_after store.about (last_vector p) v) r.FullRoots refl refl rp rq c.face_is
       (extends_trans (view p).seen c.log (view q).seen c.begins (record { more = []; whole = c.seen })) c.known c.roots
-      (uncalled rp.seat.sound.mine c) d few f g b
+      (uncalled rp.seat.sound.mine c) a.nodes few a.last_stays a.for_good a.blocked
 
 -- ---- several lines
 
@@ -188,9 +179,9 @@ at_push (u ∷ vectors) (t ∷ replies) v reply same (suc i) w s a b = next (at_
     next (before c d) = before c d
     next (final c d) = final c d
 
-module _ (table : TableId) (about : About) where
+module _ {T : Type 0} (part : Part T) (refusals : Refusals part) (store : Store) where
   -- none yet
-  pub none_inserted : (p : PassOf Roots) → Rests table about p → Inserted table about [] [] p p
+  pub none_inserted : (p : PassOf T) → AtRest part store p → Inserted part store [] [] p p
   none_inserted p rests = record {
     one_each = refl;
     rest = rests;
@@ -207,12 +198,12 @@ module _ (table : TableId) (about : About) where
   }
 
   -- a vector has no name for good
-  never_later : (p q : PassOf Roots) (v : Vector) → IsPart (view p).known (view q).known → IsPart (view p).root.roots (view q).root.roots → NeverNamed table about p v → NeverNamed table about q v
+  never_later : (p q : PassOf T) (v : Vector) → IsPart (view p).known (view q).known → IsPart (root_pairs part (view p)) (root_pairs part (view q)) → NeverNamed part store p v → NeverNamed part store q v
   never_later p q v known roots never u ru a b = never u ru (λ i x h. a i x (known i x h)) (λ i x h. b i x (roots i x h))
 
   -- one line more
-  pub more_inserted : (p q w : PassOf Roots) (vectors : List Vector) (replies : List Reply) (v : Vector) (reply : Reply) → Inserted table about vectors replies p q → Inserted table about (v ∷ []) (reply ∷ []) q w
-      → Inserted table about (vectors ++ v ∷ []) (replies ++ reply ∷ []) p w
+  pub more_inserted : (p q w : PassOf T) (vectors : List Vector) (replies : List Reply) (v : Vector) (reply : Reply) → Inserted part store vectors replies p q → Inserted part store (v ∷ []) (reply ∷ []) q w
+      → Inserted part store (vectors ++ v ∷ []) (replies ++ reply ∷ []) p w
   more_inserted p q w vectors replies v reply a b =
       let n = (view p).number in
       let same : (view q).number ≡ n = ap (λ f. f.number) a.face_is in
@@ -232,22 +223,22 @@ module _ (table : TableId) (about : About) where
         made = λ i h. ⊎_elim
             (λ (old : Has i (view q).made). ⊎_elim
             (λ (first : Has i (view p).made). inl first)
-            (λ (of : IsOfOne about (view q).known vectors i). let o = of_one_more about (view q).known (view w).known vectors i b.known of in inr (o.0, has_front o.0 vectors (v ∷ []) o.1, o.2))
+            (λ (of : IsOfOne store.about (view q).known vectors i). let o = of_one_more store.about (view q).known (view w).known vectors i b.known of in inr (o.0, has_front o.0 vectors (v ∷ []) o.1, o.2))
             (a.made i old))
-            (λ (of : IsOfOne about (view w).known (v ∷ []) i). inr (of.0, has_back of.0 vectors (v ∷ []) of.1, of.2))
+            (λ (of : IsOfOne store.about (view w).known (v ∷ []) i). inr (of.0, has_back of.0 vectors (v ∷ []) of.1, of.2))
             (b.made i h);
         last = b.last ∙ (ap (λ (o : Option Vector). last_after o v reply) a.last ∙ sym (last_more (last_vector p) vectors replies v reply a.one_each));
-        probes = (let e = puts_more about (last_vector p) vectors replies v reply a.one_each in
-            let f = ap (λ (o : Option Vector). puts_after about o v) a.last in
+        probes = (let e = puts_more store.about (last_vector p) vectors replies v reply a.one_each in
+            let f = ap (λ (o : Option Vector). puts_after store.about o v) a.last in
             omega (arith, a.probes, b.probes, e, f));
       }
     where
-      of_never : (i : ℕ) (u : Vector) (s : Reply) → is_full s ≡ true → AtPush vectors replies v reply i u s → NeverNamed table about w u
+      of_never : (i : ℕ) (u : Vector) (s : Reply) → is_full s ≡ true → AtPush vectors replies v reply i u s → NeverNamed part store w u
       of_never i u s full (before x y) = never_later q w u b.known b.roots (a.never i u s x y full)
-      of_never i u s full (final x y) = subst (λ (z : Vector). NeverNamed table about w z) x (b.never 0 v reply refl refl (ap is_full y ∙ full))
+      of_never i u s full (final x y) = subst (λ (z : Vector). NeverNamed part store w z) x (b.never 0 v reply refl refl (ap is_full y ∙ full))
 
-      of_barred : (i : ℕ) (u : Vector) (s : Reply) → AtPush vectors replies v reply i u s → Barred about (view w).known (view w).root.roots u s
-      of_barred i u s (before x y) = barred_more about (view q).known (view w).known (view q).root.roots (view w).root.roots u s b.known b.roots (a.barred i u s x y)
+      of_barred : (i : ℕ) (u : Vector) (s : Reply) → AtPush vectors replies v reply i u s → Barred part store.about (view w).known (root_pairs part (view w)) u s
+      of_barred i u s (before x y) = barred_more part refusals store q w u s a.rest b.rest b.known b.roots (a.barred i u s x y)
       of_barred i u s (final x y) =
-          subst (λ (z : Vector). Barred about (view w).known (view w).root.roots z s) x
-          (subst (λ (z : Reply). Barred about (view w).known (view w).root.roots v z) y (b.barred 0 v reply refl refl))
+          subst (λ (z : Vector). Barred part store.about (view w).known (root_pairs part (view w)) z s) x
+          (subst (λ (z : Reply). Barred part store.about (view w).known (root_pairs part (view w)) v z) y (b.barred 0 v reply refl refl))

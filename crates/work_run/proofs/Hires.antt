@@ -1,14 +1,14 @@
 -- Workers are hired one after the other, and leave again without having done anything.
 use Rattle.std.proofs.Common.{◌≡◌, ◌⊎◌, ℕ, zero, suc, ◌<◌, List, [], ◌∷◌, ◌++◌, length, map, Bool, true, false, refl, sym, ap, ◌∙◌, subst, inl, inr, ⊎_elim, arith, append-nil, length-append}
 use Rattle.std.specs.Prelude.{nat_lt, if◌then◌else◌}
-use Rattle.atomic_table.specs.Seated.{TableId}
 use Rattle.tree_shape.specs.Tree.{Has, IsPart}
 use Rattle.tdb_base.specs.History.{History}
 use Rattle.pair_rule.specs.declared.view.View.{View}
 use Rattle.pair_rule.specs.declared.sizes.About.{About}
 use Rattle.pair_rule.specs.declared.pass.PassOf.{PassOf}
 use Rattle.pair_rule.specs.Numbers.{child}
-use Rattle.pair_rule.specs.View.{longer, left, right}
+use Rattle.pair_rule.specs.Part.{Store, Part}
+use Rattle.pair_rule.specs.View.{longer, parent_view, child_view}
 use Rattle.pair_rule.specs.Rest.{AtRest, Whole, view}
 use Rattle.pair_rule.proofs.Lists.{has_front, has_either}
 use Rattle.work_run.specs.declared.worker.Worker.{Worker}
@@ -55,22 +55,22 @@ module _ {T : Type 0} where
   lefts_stay zero v = record { about = refl; number = refl; numbers = refl; seen = refl; known = refl; made = refl; probes = refl; root = refl }
   lefts_stay (suc n) v = let s = lefts_stay n v in record { about = s.about; number = s.number; numbers = s.numbers; seen = s.seen; known = s.known; made = s.made; probes = s.probes; root = s.root }
 
-  module _ (glue : T → T → T) where
+  module _ (join : T → T → T) where
     -- what was born of views that were joined into one
-    pub born_either : (v : View T) (ws : List (View T)) (c : ℕ) → ((w : View T) → Has w ws → w.born ≡ []) → Has c (joints glue v ws).born → Has c v.born
+    pub born_either : (v : View T) (ws : List (View T)) (c : ℕ) → ((w : View T) → Has w ws → w.born ≡ []) → Has c (joints join v ws).born → Has c v.born
     born_either v [] c none h = h
     born_either v (w ∷ ws) c none h = ⊎_elim
-        (λ (a : Has c (joints glue v ws).born). born_either v ws c (λ u t. none u (inr t)) a)
+        (λ (a : Has c (joints join v ws).born). born_either v ws c (λ u t. none u (inr t)) a)
         (λ (b : Has c w.born). absurd (subst (λ (x : List ℕ). Has c x) (none w (inl refl)) b))
-        (has_either c (joints glue v ws).born w.born h)
+        (has_either c (joints join v ws).born w.born h)
 
     -- views of which a whole view was split are a whole view again when they are joined into it
-    pub whole_again : (v : View T) (n : ℕ) (ws : List (View T)) → Whole v → ((w : View T) → Has w ws → w.born ≡ []) → ((j : ℕ) → j < n → (w : View T) × Has w ws × Has (given v j) w.numbers) → Whole (joints glue (lefts n v) ws)
+    pub whole_again : (v : View T) (n : ℕ) (ws : List (View T)) → Whole v → ((w : View T) → Has w ws → w.born ≡ []) → ((j : ℕ) → j < n → (w : View T) × Has w ws × Has (given v j) w.numbers) → Whole (joints join (lefts n v) ws)
     whole_again v n ws whole none each = record {
-      first = numbers_first glue (lefts n v) ws 0 (subst (λ (x : List ℕ). Has 0 x) (sym (lefts_stay n v).numbers) whole.first);
+      first = numbers_first join (lefts n v) ws 0 (subst (λ (x : List ℕ). Has 0 x) (sym (lefts_stay n v).numbers) whole.first);
       all = λ c h. ⊎_elim
-          (λ (b : Has c v.born). numbers_first glue (lefts n v) ws c (subst (λ (x : List ℕ). Has c x) (sym (lefts_stay n v).numbers) (whole.all c b)))
-          (λ (f : (j : ℕ) × (j < n) × (c ≡ given v j)). let w = each f.0 f.1 in subst (λ (x : ℕ). Has x (joints glue (lefts n v) ws).numbers) (sym f.2) (numbers_other glue (lefts n v) w.0 ws (given v f.0) w.1 w.2))
+          (λ (b : Has c v.born). numbers_first join (lefts n v) ws c (subst (λ (x : List ℕ). Has c x) (sym (lefts_stay n v).numbers) (whole.all c b)))
+          (λ (f : (j : ℕ) × (j < n) × (c ≡ given v j)). let w = each f.0 f.1 in subst (λ (x : ℕ). Has x (joints join (lefts n v) ws).numbers) (sym f.2) (numbers_other join (lefts n v) w.0 ws (given v f.0) w.1 w.2))
           (born_of v n c (born_either (lefts n v) ws c none h));
     }
 
@@ -87,12 +87,12 @@ module _ {T : Type 0} where
       pub made : w.made ≡ v.made
       pub probes : w.probes ≡ v.probes
 
-    pub joints_nothing : (v : View T) (ws : List (View T)) → ((w : View T) → Has w ws → DidNothing v w) → Nothing v (joints glue v ws)
+    pub joints_nothing : (v : View T) (ws : List (View T)) → ((w : View T) → Has w ws → DidNothing v w) → Nothing v (joints join v ws)
     joints_nothing v [] each = record { seen = refl; known = (λ i x h. h, λ i x h. h); made = refl; probes = refl }
     joints_nothing v (w ∷ ws) each =
         let s = joints_nothing v ws (λ u t. each u (inr t)) in
         let d = each w (inl refl) in
-        let j = joints glue v ws in
+        let j = joints join v ws in
         record {
           seen = (λ k. longer (s.seen k) (d.seen k)) ∙ longer_same v.seen;
           known = (
@@ -103,46 +103,46 @@ module _ {T : Type 0} where
           probes = omega (arith, s.probes, d.probes);
         }
 
-module _ {T : Type 0} (roots : About → History → T → List (ℕ × ℕ)) (house : About → List (ℕ × ℕ) → Type 0) (told : About → View T → Type 0) (table : TableId) (about : About) (cut : T → T) (rooms : ℕ → ℕ) where
-  pub hired_none : (p : PassOf T) → AtRest roots house told table about p → Hired roots house told table about cut rooms p p []
+module _ {T : Type 0} (part : Part T) (store : Store) (rooms : ℕ → ℕ) where
+  pub hired_none : (p : PassOf T) → AtRest part store p → Hired part store rooms p p []
   hired_none p rests = record { rest = rests; pass_is = refl; view_is = refl; each = λ j d lt. absurd (omega arith) }
 
-  pub hired_more : (base old new : PassOf T) (crew : List (Worker T)) (worker : Worker T) → Hired roots house told table about cut rooms base old crew → AtRest roots house told table about new
-      → view new ≡ left (view old) → new ≡ record old { seat = new.seat } → IsHired roots house told table about cut (view old) (length crew) (rooms (length crew)) worker
-      → Hired roots house told table about cut rooms base new (crew ++ worker ∷ [])
+  pub hired_more : (base old new : PassOf T) (crew : List (Worker T)) (worker : Worker T) → Hired part store rooms base old crew → AtRest part store new
+      → view new ≡ parent_view (view old) → new ≡ record old { seat = new.seat } → IsHired part store (view old) (length crew) (rooms (length crew)) worker
+      → Hired part store rooms base new (crew ++ worker ∷ [])
   hired_more base old new crew worker h rests is same one = record {
     rest = rests;
     pass_is = same ∙ (λ i. record (h.pass_is i) { seat = new.seat });
-    view_is = is ∙ (ap (λ (v : View T). left v) h.view_is ∙ ap (λ (n : ℕ). lefts n (view base)) (let long : suc (length crew) ≡ length (crew ++ worker ∷ []) = omega (arith, length-append crew (worker ∷ [])) in long));
-    each = each_push (λ j w. IsHired roots house told table about cut (lefts j (view base)) j (rooms j) w) crew worker h.each
-        (subst (λ (v : View T). IsHired roots house told table about cut v (length crew) (rooms (length crew)) worker) h.view_is one);
+    view_is = is ∙ (ap (λ (v : View T). parent_view v) h.view_is ∙ ap (λ (n : ℕ). lefts n (view base)) (let long : suc (length crew) ≡ length (crew ++ worker ∷ []) = omega (arith, length-append crew (worker ∷ [])) in long));
+    each = each_push (λ j w. IsHired part store (lefts j (view base)) j (rooms j) w) crew worker h.each
+        (subst (λ (v : View T). IsHired part store v (length crew) (rooms (length crew)) worker) h.view_is one);
   }
 
   -- a crew that leaves without having done anything
-  pub unused : (glue : T → T → T) (base now new : PassOf T) (crew : List (Worker T)) → Hired roots house told table about cut rooms base now crew
-      → Joined roots house told table about glue now new (map (λ (w : Worker T). w.pass) crew) → Unused base new
-  unused glue base now new crew h j =
+  pub unused : (base now new : PassOf T) (crew : List (Worker T)) → Hired part store rooms base now crew
+      → Joined part store now new (map (λ (w : Worker T). w.pass) crew) → Unused base new
+  unused base now new crew h j =
       let v = view base in
       let passes = map (λ (w : Worker T). w.pass) crew in
       let ws = map (λ (p : PassOf T). view p) passes in
-      let final : view new ≡ joints glue (lefts (length crew) v) ws = j.view_is ∙ ap (λ (x : View T). joints glue x ws) h.view_is in
+      let final : view new ≡ joints part.join (lefts (length crew) v) ws = j.view_is ∙ ap (λ (x : View T). joints part.join x ws) h.view_is in
       let stay = lefts_stay (length crew) v in
-      let n = joints_nothing glue (lefts (length crew) v) ws (λ u t. did u t) in
+      let n = joints_nothing part.join (lefts (length crew) v) ws (λ u t. did u t) in
       let from = sym final in
       record {
         pass_is = j.pass_is ∙ (λ i. record (h.pass_is i) { seat = new.seat; nodes_count = new.nodes_count; names_count = new.names_count });
         seen = ap (λ (x : View T). x.seen) final ∙ (n.seen ∙ stay.seen);
-        numbers = λ c t. subst (λ (x : View T). Has c x.numbers) from (numbers_first glue (lefts (length crew) v) ws c (subst (λ (x : List ℕ). Has c x) (sym stay.numbers) t));
+        numbers = λ c t. subst (λ (x : View T). Has c x.numbers) from (numbers_first part.join (lefts (length crew) v) ws c (subst (λ (x : List ℕ). Has c x) (sym stay.numbers) t));
         known = (
           λ i x t. subst (λ (y : View T). Has (i, x) y.known) from (n.known.0 i x (subst (λ (y : List (ℕ × ℕ)). Has (i, x) y) (sym stay.known) t)),
           λ i x t. subst (λ (y : List (ℕ × ℕ)). Has (i, x) y) stay.known (n.known.1 i x (subst (λ (y : View T). Has (i, x) y.known) final t)),
         );
         made = ap (λ (x : View T). x.made) final ∙ (n.made ∙ stay.made);
         probes = ap (λ (x : View T). x.probes) final ∙ (n.probes ∙ stay.probes);
-        whole = λ whole. subst (λ (x : View T). Whole x) from (whole_again glue v (length crew) ws whole (λ u t. none u t) (λ k lt. one k lt));
+        whole = λ whole. subst (λ (x : View T). Whole x) from (whole_again part.join v (length crew) ws whole (λ u t. none u t) (λ k lt. one k lt));
       }
     where
-      worker_of : (u : View T) → Has u (map (λ (p : PassOf T). view p) (map (λ (w : Worker T). w.pass) crew)) → (k : ℕ) × (k < length crew) × (u ≡ right cut (lefts k (view base)))
+      worker_of : (u : View T) → Has u (map (λ (p : PassOf T). view p) (map (λ (w : Worker T). w.pass) crew)) → (k : ℕ) × (k < length crew) × (u ≡ child_view part.split (lefts k (view base)))
       worker_of u t =
           let p = has_unmap (λ (p : PassOf T). view p) u (map (λ (w : Worker T). w.pass) crew) t in
           let w = has_unmap (λ (w : Worker T). w.pass) p.0 crew p.1 in
@@ -150,7 +150,7 @@ module _ {T : Type 0} (roots : About → History → T → List (ℕ × ℕ)) (h
           let is = (h.each place.0 w.0 place.1).view_is in
           (place.0, place.1, p.2 ∙ (ap (λ (q : PassOf T). view q) w.2 ∙ (ap (λ (y : Worker T). view y.pass) (sym place.2) ∙ is)))
 
-      did : (u : View T) → Has u (map (λ (p : PassOf T). view p) (map (λ (w : Worker T). w.pass) crew)) → DidNothing glue (lefts (length crew) (view base)) u
+      did : (u : View T) → Has u (map (λ (p : PassOf T). view p) (map (λ (w : Worker T). w.pass) crew)) → DidNothing part.join (lefts (length crew) (view base)) u
       did u t =
           let w = worker_of u t in
           let a = lefts_stay w.0 (view base) in
@@ -169,7 +169,7 @@ module _ {T : Type 0} (roots : About → History → T → List (ℕ × ℕ)) (h
       one k lt =
           let p = placed crew k lt in
           let is = (h.each k p.one lt).view_is in
-          let same : view p.one.pass ≡ right cut (lefts k (view base)) = ap (λ (y : Worker T). view y.pass) (sym (p.here p.one)) ∙ is in (
+          let same : view p.one.pass ≡ child_view part.split (lefts k (view base)) = ap (λ (y : Worker T). view y.pass) (sym (p.here p.one)) ∙ is in (
             view p.one.pass,
             has_map (λ (p : PassOf T). view p) p.one.pass (map (λ (w : Worker T). w.pass) crew) (has_map (λ (w : Worker T). w.pass) p.one crew p.there),
             subst (λ (x : View T). Has (given (view base) k) x.numbers) (sym same) (inl refl),

@@ -2,88 +2,89 @@
 use Rattle.std.proofs.Common.{◌≡◌, ℕ, List, [], ◌∷◌, ◌++◌, map, refl, sym, ap, ◌∙◌, subst, ⊎_elim, append_assoc, append-nil}
 use Rattle.std.specs.Prelude.{All, Some}
 use Rattle.std.proofs.lemmas.List.Elements.{All-pop}
-use Rattle.atomic_table.specs.Seated.{TableId}
 use Rattle.tree_shape.specs.Tree.{Has}
 use Rattle.tdb_base.specs.History.{History}
 use Rattle.pair_rule.specs.declared.view.View.{View}
 use Rattle.pair_rule.specs.declared.sizes.About.{About}
 use Rattle.pair_rule.specs.declared.pass.PassOf.{PassOf}
 use Rattle.pair_rule.specs.Rest.{AtRest, view}
-use Rattle.pair_rule.specs.View.{joined}
+use Rattle.pair_rule.specs.Part.{Store, Part}
+use Rattle.pair_rule.specs.Splits.{HasTaken}
+use Rattle.pair_rule.specs.View.{joined_view}
 use Rattle.pair_rule.proofs.Lists.{has_front, has_back}
 use Rattle.pair_rule.proofs.Histories.{extends_refl, extends_trans}
 use Rattle.work_run.specs.declared.worker.Worker.{Worker}
-use Rattle.work_run.specs.Crew.{joints, HasTaken, Joined}
+use Rattle.work_run.specs.Crew.{joints, Joined}
 use Rattle.work_run.proofs.Elements.{has_map}
 
-module _ {T : Type 0} (glue : T → T → T) where
+module _ {T : Type 0} (join : T → T → T) where
   -- the numbers of views that were joined into one are its numbers
-  pub numbers_first : (v : View T) (ws : List (View T)) (c : ℕ) → Has c v.numbers → Has c (joints glue v ws).numbers
+  pub numbers_first : (v : View T) (ws : List (View T)) (c : ℕ) → Has c v.numbers → Has c (joints join v ws).numbers
   numbers_first v [] c h = h
-  numbers_first v (w ∷ ws) c h = has_front c (joints glue v ws).numbers w.numbers (numbers_first v ws c h)
+  numbers_first v (w ∷ ws) c h = has_front c (joints join v ws).numbers w.numbers (numbers_first v ws c h)
 
-  pub numbers_other : (v w : View T) (ws : List (View T)) (c : ℕ) → Has w ws → Has c w.numbers → Has c (joints glue v ws).numbers
+  pub numbers_other : (v w : View T) (ws : List (View T)) (c : ℕ) → Has w ws → Has c w.numbers → Has c (joints join v ws).numbers
   numbers_other v w [] c h n = absurd h
   numbers_other v w (u ∷ ws) c h n = ⊎_elim
-      (λ (e : w ≡ u). has_back c (joints glue v ws).numbers u.numbers (subst (λ (x : View T). Has c x.numbers) e n))
-      (λ (t : Has w ws). has_front c (joints glue v ws).numbers u.numbers (numbers_other v w ws c t n))
+      (λ (e : w ≡ u). has_back c (joints join v ws).numbers u.numbers (subst (λ (x : View T). Has c x.numbers) e n))
+      (λ (t : Has w ws). has_front c (joints join v ws).numbers u.numbers (numbers_other v w ws c t n))
       h
 
-module _ {T : Type 0} (roots : About → History → T → List (ℕ × ℕ)) (house : About → List (ℕ × ℕ) → Type 0) (told : About → View T → Type 0) (table : TableId) (about : About) where
-  pub taken_same : (v : View T) → HasTaken roots house told table about v v
-  taken_same v = record { seen = extends_refl v.seen; calls = λ c h. refl; known = λ i x h. h; roots_of = λ i x h. h }
+module _ {T : Type 0} (part : Part T) (store : Store) where
+  pub taken_same : (v : View T) → HasTaken part v v
+  taken_same v = record { seen = extends_refl v.seen; calls = λ c h. refl; known = λ i x h. h; roots = λ i x h. h }
 
-  pub joined_none : (glue : T → T → T) (p : PassOf T) → AtRest roots house told table about p → Joined roots house told table about glue p p []
-  joined_none glue p rests = record { rest = rests; pass_is = refl; view_is = refl; base_taken = taken_same (view p); taken = λ q h. absurd h }
+  pub joined_none : (p : PassOf T) → AtRest part store p → Joined part store p p []
+  joined_none p rests = record { rest = rests; pass_is = refl; view_is = refl; base_taken = taken_same (view p); taken = λ q h. absurd h }
 
-  taken_then : (u v w : View T) → HasTaken roots house told table about u v → HasTaken roots house told table about v w → ((c : ℕ) → Has c u.numbers → Has c v.numbers) → HasTaken roots house told table about u w
+  taken_then : (u v w : View T) → HasTaken part u v → HasTaken part v w → ((c : ℕ) → Has c u.numbers → Has c v.numbers) → HasTaken part u w
   taken_then u v w a b numbers = record {
     seen = extends_trans u.seen v.seen w.seen a.seen b.seen;
     calls = λ c h. b.calls c (numbers c h) ∙ a.calls c h;
     known = λ i x h. b.known i x (a.known i x h);
-    roots_of = λ i x h. b.roots_of i x (a.roots_of i x h);
+    roots = λ i x h. b.roots i x (a.roots i x h);
   }
 
   -- one more pass, as a join tells
-  pub joined_more : (glue : T → T → T) (base old new p : PassOf T) (others : List (PassOf T)) → Joined roots house told table about glue base old others
-      → AtRest roots house told table about new
-      → view new ≡ joined glue (view old) (view p)
-      → HasTaken roots house told table about (view old) (view new)
-      → HasTaken roots house told table about (view p) (view new)
+  pub joined_more : (base old new p : PassOf T) (others : List (PassOf T)) → Joined part store base old others
+      → AtRest part store new
+      → view new ≡ joined_view part.join (view old) (view p)
+      → HasTaken part (view old) (view new)
+      → HasTaken part (view p) (view new)
       → new ≡ record old { seat = new.seat; nodes_count = new.nodes_count; names_count = new.names_count }
-      → Joined roots house told table about glue base new (p ∷ others)
-  joined_more glue base old new p others j rests is all theirs same = record {
+      → Joined part store base new (p ∷ others)
+  joined_more base old new p others j rests is all theirs same = record {
     rest = rests;
     pass_is = same ∙ (λ i. record (j.pass_is i) { seat = new.seat; nodes_count = new.nodes_count; names_count = new.names_count });
-    view_is = is ∙ ap (λ (v : View T). joined glue v (view p)) j.view_is;
-    base_taken = taken_then (view base) (view old) (view new) j.base_taken all (λ c n. subst (λ (x : View T). Has c x.numbers) (sym j.view_is) (numbers_first glue (view base) (map view others) c n));
+    view_is = is ∙ ap (λ (v : View T). joined_view part.join v (view p)) j.view_is;
+    base_taken = taken_then (view base) (view old) (view new) j.base_taken all (λ c n. subst (λ (x : View T). Has c x.numbers) (sym j.view_is) (numbers_first part.join (view base) (map view others) c n));
     taken = λ q h. ⊎_elim
-        (λ (e : q ≡ p). subst (λ (x : PassOf T). HasTaken roots house told table about (view x) (view new)) (sym e) theirs)
-        (λ (t : Has q others). taken_then (view q) (view old) (view new) (j.taken q t) all (λ c n. subst (λ (x : View T). Has c x.numbers) (sym j.view_is) (numbers_other glue (view base) (view q) (map view others) c (has_map view q others t) n)))
+        (λ (e : q ≡ p). subst (λ (x : PassOf T). HasTaken part (view x) (view new)) (sym e) theirs)
+        (λ (t : Has q others). taken_then (view q) (view old) (view new) (j.taken q t) all (λ c n. subst (λ (x : View T). Has c x.numbers) (sym j.view_is) (numbers_other part.join (view base) (view q) (map view others) c (has_map view q others t) n)))
         h;
   }
 
   -- a crew that is being dismissed: the passes of those who left were joined into one
-  pub record Dismissing (glue : T → T → T) (base now : PassOf T) (crew left : List (Worker T)) : Type 0 where
+  pub record Dismissing (base now : PassOf T) (crew left : List (Worker T)) : Type 0 where
     pub done : List (Worker T)
     pub whole : crew ≡ left ++ done
-    pub stay : All (λ (w : Worker T). AtRest roots house told table about w.pass) left
-    pub joined : Joined roots house told table about glue base now (map (λ (w : Worker T). w.pass) done)
+    pub stay : All (λ (w : Worker T). AtRest part store w.pass) left
+    pub joined : Joined part store base now (map (λ (w : Worker T). w.pass) done)
 
-  pub dismissing_none : (glue : T → T → T) (p : PassOf T) (crew : List (Worker T)) → AtRest roots house told table about p → All (λ (w : Worker T). AtRest roots house told table about w.pass) crew → Dismissing glue p p crew crew
-  dismissing_none glue p crew rests all = record { done = []; whole = sym (append-nil crew); stay = all; joined = joined_none glue p rests }
+  pub dismissing_none : (p : PassOf T) (crew : List (Worker T)) → AtRest part store p → All (λ (w : Worker T). AtRest part store w.pass) crew → Dismissing p p crew crew
+  dismissing_none p crew rests all = record { done = []; whole = sym (append-nil crew); stay = all; joined = joined_none p rests }
 
   -- the last one leaves
-  pub dismissing_more : (glue : T → T → T) (base old new : PassOf T) (crew left rest : List (Worker T)) (worker : Worker T) → Dismissing glue base old crew left → left ≡ rest ++ worker ∷ []
-      → AtRest roots house told table about new
-      → view new ≡ joined glue (view old) (view worker.pass)
-      → HasTaken roots house told table about (view old) (view new)
-      → HasTaken roots house told table about (view worker.pass) (view new)
+  pub dismissing_more : (base old new : PassOf T) (crew left rest : List (Worker T)) (worker : Worker T) → Dismissing base old crew left → left ≡ rest ++ worker ∷ []
+      → AtRest part store new
+      → view new ≡ joined_view part.join (view old) (view worker.pass)
+      → HasTaken part (view old) (view new)
+      → HasTaken part (view worker.pass) (view new)
       → new ≡ record old { seat = new.seat; nodes_count = new.nodes_count; names_count = new.names_count }
-      → Dismissing glue base new crew rest
-  dismissing_more glue base old new crew left rest worker d last rests is all theirs same = record {
-    stay = (All-pop (λ (w : Worker T). AtRest roots house told table about w.pass) left rest (Some worker) last d.stay).0;
+      → Dismissing base new crew rest
+  dismissing_more base old new crew left rest worker d last rests is all theirs same = record {
+    stay = (All-pop (λ (w : Worker T). AtRest part store w.pass) left rest (Some worker) last d.stay).0;
     done = worker ∷ d.done;
     whole = d.whole ∙ (ap (λ (x : List (Worker T)). x ++ d.done) last ∙ append_assoc rest (worker ∷ []) d.done);
-    joined = joined_more glue base old new worker.pass (map (λ (w : Worker T). w.pass) d.done) d.joined rests is all theirs same;
+    joined = joined_more base old new worker.pass (map (λ (w : Worker T). w.pass) d.done) d.joined rests is all theirs same;
   }

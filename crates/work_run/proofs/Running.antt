@@ -7,8 +7,7 @@ use Rattle.std.proofs.lemmas.List.FromFn.{length-map-range_with_len}
 use Rattle.std.proofs.lemmas.List.{get_or-map, length-map, nil_from_length}
 use Rattle.std.proofs.lemmas.List.Sums.{sum_by-cons}
 use Rattle.std.proofs.lemmas.Option.{slice_get_within}
-use Rattle.atomic_table.specs.Seated.{TableId}
-use Rattle.tree_shape.specs.Tree.{Has}
+use Rattle.tree_shape.specs.Tree.{Has, IsPart}
 use Rattle.tdb_base.specs.Agrees.{AgreesAmongOthers, entry_at, told}
 use Rattle.tdb_base.specs.History.{Vector, Entry, History, calls}
 use Rattle.tdb_base.specs.Legal.{IsLegal, Extends}
@@ -21,21 +20,20 @@ use Rattle.tdb_base.proofs.TallyLemmas.{contained-at}
 use Rattle.pair_rule.specs.declared.view.View.{View}
 use Rattle.pair_rule.specs.declared.sizes.About.{About}
 use Rattle.pair_rule.specs.declared.pass.PassOf.{PassOf}
-use Rattle.pair_rule.specs.View.{right}
+use Rattle.pair_rule.specs.View.{child_view}
 use Rattle.pair_rule.specs.Rest.{Whole, view, last_vector}
 use Rattle.pair_rule.proofs.Census.{child_same}
 use Rattle.pair_rule.proofs.Lists.{has_either}
 use Rattle.pair_rule.proofs.Histories.{calls_append}
-use Rattle.root_plain.specs.declared.root.Roots.{Roots}
-use Rattle.root_plain.specs.Plain.{Told}
-use Rattle.root_plain.specs.Plays.{roots_of, house_of}
-use Rattle.root_plain.proofs.PassLaws.{has_all}
+use Rattle.pair_rule.specs.Part.{Store, Part, root_pairs}
+use Rattle.pair_rule.specs.Splits.{HasTaken}
+use Rattle.pair_nodes.specs.Roots.{Refusals}
 use Rattle.work_run.specs.declared.worker.Worker.{Worker}
-use Rattle.work_run.specs.Crew.{lefts, joints, IsHired, Hired, HasTaken, Joined}
+use Rattle.work_run.specs.Crew.{lefts, joints, IsHired, Hired, Joined}
 use Rattle.work_run.specs.Full.{IsOfOne}
 use Rattle.work_run.specs.Inserted.{puts_of, Inserted}
 use Rattle.work_run.specs.Work.{HasAnswered}
-use Rattle.work_run.specs.Ran.{KeepsPass, OneHistory, FullAreBarred, NewNodesAreOfLines, puts_of_worker, puts_of_all}
+use Rattle.work_run.specs.Ran.{HasRun, KeepsPass, OneHistory, FullAreBarred, NewNodesAreOfLines, puts_of_worker, puts_of_all}
 use Rattle.work_run.proofs.Answered.{barred_more, of_one_more}
 use Rattle.work_run.proofs.Dealing.{mine-turn}
 use Rattle.work_run.proofs.Elements.{has_or_not, has_map, has_unmap, has_place, placed, numbered_at, at_numbered}
@@ -54,34 +52,34 @@ module _ {T : Type 0} where
       let both = child_same (lefts j v).number (lefts k v).number (lefts j v).splits (lefts k v).splits same in
       omega (arith, both.1, lefts_splits j v, lefts_splits k v)
 
-  module _ (glue : T → T → T) where
-    numbers_either : (v : View T) (ws : List (View T)) (c : ℕ) → Has c (joints glue v ws).numbers → Has c v.numbers ⊎ ((w : View T) × Has w ws × Has c w.numbers)
+  module _ (join : T → T → T) where
+    numbers_either : (v : View T) (ws : List (View T)) (c : ℕ) → Has c (joints join v ws).numbers → Has c v.numbers ⊎ ((w : View T) × Has w ws × Has c w.numbers)
     numbers_either v [] c h = inl h
     numbers_either v (w ∷ ws) c h = ⊎_elim
-        (λ (a : Has c (joints glue v ws).numbers). ⊎_elim
+        (λ (a : Has c (joints join v ws).numbers). ⊎_elim
         (λ (b : Has c v.numbers). inl b)
         (λ (f : (u : View T) × Has u ws × Has c u.numbers). let found : (u : View T) × Has u (w ∷ ws) × Has c u.numbers = (f.0, inr f.1, f.2) in inr found)
         (numbers_either v ws c a))
         (λ (b : Has c w.numbers). let found : (u : View T) × Has u (w ∷ ws) × Has c u.numbers = (w, inl refl, b) in inr found)
-        (has_either c (joints glue v ws).numbers w.numbers h)
+        (has_either c (joints join v ws).numbers w.numbers h)
 
-    made_either : (v : View T) (ws : List (View T)) (i : ℕ) → Has i (joints glue v ws).made → Has i v.made ⊎ ((w : View T) × Has w ws × Has i w.made)
+    made_either : (v : View T) (ws : List (View T)) (i : ℕ) → Has i (joints join v ws).made → Has i v.made ⊎ ((w : View T) × Has w ws × Has i w.made)
     made_either v [] i h = inl h
     made_either v (w ∷ ws) i h = ⊎_elim
-        (λ (a : Has i (joints glue v ws).made). ⊎_elim
+        (λ (a : Has i (joints join v ws).made). ⊎_elim
         (λ (b : Has i v.made). inl b)
         (λ (f : (u : View T) × Has u ws × Has i u.made). let found : (u : View T) × Has u (w ∷ ws) × Has i u.made = (f.0, inr f.1, f.2) in inr found)
         (made_either v ws i a))
         (λ (b : Has i w.made). let found : (u : View T) × Has u (w ∷ ws) × Has i u.made = (w, inl refl, b) in inr found)
-        (has_either i (joints glue v ws).made w.made h)
+        (has_either i (joints join v ws).made w.made h)
 
-    joints_number : (v : View T) (ws : List (View T)) → (joints glue v ws).number ≡ v.number
+    joints_number : (v : View T) (ws : List (View T)) → (joints join v ws).number ≡ v.number
     joints_number v [] = refl
     joints_number v (w ∷ ws) = joints_number v ws
 
     -- the probes of views that were joined into one
     probes_within : (v : View T) (ws : List (View T)) (most : ℕ → ℕ) (from : ℕ) → ((j : ℕ) (d : View T) → j < length ws → (get_or ws j d).probes ≤ most (from + j))
-        → (joints glue v ws).probes ≤ v.probes + sum (map most (range_with_len from (length ws)))
+        → (joints join v ws).probes ≤ v.probes + sum (map most (range_with_len from (length ws)))
     probes_within v [] most from each = omega arith
     probes_within v (w ∷ ws) most from each =
         let rest = probes_within v ws most (from + 1) (λ j d lt. let h = each (suc j) d (omega arith) in let e : from + suc j ≡ (from + 1) + j = omega arith in subst (λ (n : ℕ). (get_or ws j d).probes ≤ most n) e h) in
@@ -89,11 +87,11 @@ module _ {T : Type 0} where
         omega (arith, rest, here, sum_by-cons (λ (x : ℕ). x) (most from) (map most (range_with_len (from + 1) (length ws))))
 
 -- each worker that answered has a reply for each of its lines
-pub replies_each : (table : TableId) (about : About) (cut : Roots → Roots) (rooms : ℕ → ℕ) (base now : PassOf Roots) (trace : List Vector) (workers block : ℕ) (crew after : List (Worker Roots))
-    → Hired roots_of house_of Told table about cut rooms base now crew → length crew ≡ workers
-    → ((j : ℕ) (d : Worker Roots) → j < length crew → HasAnswered table about trace workers block (get_or crew j d) (get_or after j d)) → length after ≡ length crew
-    → (j : ℕ) (d : Worker Roots) → j < length after → length (get_or after j d).replies.items ≡ length (mine (length trace) (length after) block j)
-replies_each table about cut rooms base now trace workers block crew after hired all_hired answered all_after j d lt =
+pub replies_each : {T : Type 0} (part : Part T) (store : Store) (rooms : ℕ → ℕ) (base now : PassOf T) (trace : List Vector) (workers block : ℕ) (crew after : List (Worker T))
+    → Hired part store rooms base now crew → length crew ≡ workers
+    → ((j : ℕ) (d : Worker T) → j < length crew → HasAnswered part store trace workers block (get_or crew j d) (get_or after j d)) → length after ≡ length crew
+    → (j : ℕ) (d : Worker T) → j < length after → length (get_or after j d).replies.items ≡ length (mine (length trace) (length after) block j)
+replies_each part store rooms base now trace workers block crew after hired all_hired answered all_after j d lt =
     let a = answered j d (omega arith) in
     let number = (hired.each j d (omega arith)).number_is in
     let places = mine (length trace) workers block j in
@@ -101,36 +99,36 @@ replies_each table about cut rooms base now trace workers block crew after hired
     let long : workers ≡ length after = omega (arith, all_after, all_hired) in
     a.inserted.one_each ∙ (same ∙ (picked_length trace places (mine_below (length trace) workers block j) ∙ ap (λ (n : ℕ). length (mine (length trace) n block j)) long))
 
-module _ (table : TableId) (about : About) (cut : Roots → Roots) (glue : Roots → Roots → Roots) (rooms : ℕ → ℕ) (base now new : PassOf Roots) (trace : List Vector) (replies : List Reply) (workers block : ℕ)
-    (crew after : List (Worker Roots)) (hired : Hired roots_of house_of Told table about cut rooms base now crew) (all_hired : length crew ≡ workers) (some : 1 ≤ workers) (any : 1 ≤ block)
-    (answered : (j : ℕ) (d : Worker Roots) → j < length crew → HasAnswered table about trace workers block (get_or crew j d) (get_or after j d)) (all_after : length after ≡ length crew)
+module _ {T : Type 0} (part : Part T) (refusals : Refusals part) (store : Store) (rooms : ℕ → ℕ) (base now new : PassOf T) (trace : List Vector) (replies : List Reply) (workers block : ℕ)
+    (crew after : List (Worker T)) (hired : Hired part store rooms base now crew) (all_hired : length crew ≡ workers) (some : 1 ≤ workers) (any : 1 ≤ block)
+    (answered : (j : ℕ) (d : Worker T) → j < length crew → HasAnswered part store trace workers block (get_or crew j d) (get_or after j d)) (all_after : length after ≡ length crew)
     (one_each : length replies ≡ length trace)
-    (are_placed : (j : ℕ) (d : Worker Roots) → j < length after → picked replies (mine (length trace) (length after) block j) ≡ (get_or after j d).replies.items)
-    (joint : Joined roots_of house_of Told table about glue now new (map (λ (w : Worker Roots). w.pass) after)) where
-  abbrev v0 : View Roots
+    (are_placed : (j : ℕ) (d : Worker T) → j < length after → picked replies (mine (length trace) (length after) block j) ≡ (get_or after j d).replies.items)
+    (joint : Joined part store now new (map (λ (w : Worker T). w.pass) after)) where
+  abbrev v0 : View T
   v0 = view base
 
-  abbrev passes : List (PassOf Roots)
-  passes = map (λ (w : Worker Roots). w.pass) after
+  abbrev passes : List (PassOf T)
+  passes = map (λ (w : Worker T). w.pass) after
 
-  abbrev views : List (View Roots)
-  views = map (λ (p : PassOf Roots). view p) passes
+  abbrev views : List (View T)
+  views = map (λ (p : PassOf T). view p) passes
 
   abbrev lines_of : ℕ → List ℕ
   lines_of j = mine (length trace) workers block j
 
   -- the worker with this number: its pass before and after it inserted its lines
   record Mate (j : ℕ) : Type 0 where
-    start : PassOf Roots
-    pass : PassOf Roots
+    start : PassOf T
+    pass : PassOf T
     there : Has pass passes
-    here : (d : Worker Roots) → (get_or after j d).pass ≡ pass
-    start_is : view start ≡ right cut (lefts j v0)
+    here : (d : Worker T) → (get_or after j d).pass ≡ pass
+    start_is : view start ≡ child_view part.split (lefts j v0)
     start_tree : last_vector start ≡ None
     fresh : calls v0.seen (given v0 j) ≡ []
-    inserted : Inserted table about (picked trace (lines_of j)) (picked replies (lines_of j)) start pass
+    inserted : Inserted part store (picked trace (lines_of j)) (picked replies (lines_of j)) start pass
 
-  untreed : (p : PassOf Roots) → p.has_last ≡ false → last_vector p ≡ None
+  untreed : (p : PassOf T) → p.has_last ≡ false → last_vector p ≡ None
   untreed p none = rw none refl
 
   mate : (j : ℕ) → j < workers → Mate j
@@ -140,57 +138,57 @@ module _ (table : TableId) (about : About) (cut : Roots → Roots) (glue : Roots
       let h = hired.each j q.one (omega arith) in
       let a = answered j p.one (omega arith) in
       let start = get_or crew j p.one in
-      let is_hired = subst (λ (w : Worker Roots). IsHired roots_of house_of Told table about cut (lefts j v0) j (rooms j) w) (q.here q.one ∙ sym (q.here p.one)) h in
+      let is_hired = subst (λ (w : Worker T). IsHired part store (lefts j v0) j (rooms j) w) (q.here q.one ∙ sym (q.here p.one)) h in
       let number : start.number ≡ j = is_hired.number_is in
       let mine_replies : (get_or after j p.one).replies.items ≡ picked replies (lines_of j) =
       sym (are_placed j p.one (omega arith)) ∙ ap (λ (n : ℕ). picked replies (mine (length trace) n block j)) (all_after ∙ all_hired) in
       record {
         start = start.pass;
         pass = p.one.pass;
-        there = has_map (λ (w : Worker Roots). w.pass) p.one after p.there;
-        here = λ d. ap (λ (w : Worker Roots). w.pass) (p.here d);
+        there = has_map (λ (w : Worker T). w.pass) p.one after p.there;
+        here = λ d. ap (λ (w : Worker T). w.pass) (p.here d);
         start_is = is_hired.view_is;
         start_tree = untreed start.pass is_hired.no_tree;
-        fresh = ap (λ (h : History). calls h (given v0 j)) (sym (lefts_stay j v0).seen) ∙ subst (λ (n : ℕ). calls (lefts j v0).seen n ≡ []) (ap (λ (u : View Roots). u.number) is_hired.view_is) is_hired.unknown.no_calls;
-        inserted = subst (λ (w : Worker Roots). Inserted table about (picked trace (lines_of j)) (picked replies (lines_of j)) start.pass w.pass) (p.here p.one)
-            (subst (λ (r : List Reply). Inserted table about (picked trace (lines_of j)) r start.pass (get_or after j p.one).pass) mine_replies
-            (subst (λ (n : ℕ). Inserted table about (picked trace (lines_of n)) (get_or after j p.one).replies.items start.pass (get_or after j p.one).pass) number a.inserted));
+        fresh = ap (λ (h : History). calls h (given v0 j)) (sym (lefts_stay j v0).seen) ∙ subst (λ (n : ℕ). calls (lefts j v0).seen n ≡ []) (ap (λ (u : View T). u.number) is_hired.view_is) is_hired.unknown.no_calls;
+        inserted = subst (λ (w : Worker T). Inserted part store (picked trace (lines_of j)) (picked replies (lines_of j)) start.pass w.pass) (p.here p.one)
+            (subst (λ (r : List Reply). Inserted part store (picked trace (lines_of j)) r start.pass (get_or after j p.one).pass) mine_replies
+            (subst (λ (n : ℕ). Inserted part store (picked trace (lines_of n)) (get_or after j p.one).replies.items start.pass (get_or after j p.one).pass) number a.inserted));
       }
 
   -- each pass that was joined is that of a worker
-  mate_of : (u : View Roots) → Has u views → (j : ℕ) × (lt : j < workers) × (u ≡ view (mate j lt).pass)
+  mate_of : (u : View T) → Has u views → (j : ℕ) × (lt : j < workers) × (u ≡ view (mate j lt).pass)
   mate_of u h =
-      let p = has_unmap (λ (p : PassOf Roots). view p) u passes h in
-      let w = has_unmap (λ (w : Worker Roots). w.pass) p.0 after p.1 in
+      let p = has_unmap (λ (p : PassOf T). view p) u passes h in
+      let w = has_unmap (λ (w : Worker T). w.pass) p.0 after p.1 in
       let place = has_place w.0 after w.1 in
       let lt : place.0 < workers = omega (arith, place.1, all_after, all_hired) in
       let m = mate place.0 lt in
-      (place.0, lt, p.2 ∙ (ap (λ (q : PassOf Roots). view q) (w.2 ∙ ap (λ (x : Worker Roots). x.pass) (sym place.2)) ∙ ap (λ (q : PassOf Roots). view q) (m.here w.0)))
+      (place.0, lt, p.2 ∙ (ap (λ (q : PassOf T). view q) (w.2 ∙ ap (λ (x : Worker T). x.pass) (sym place.2)) ∙ ap (λ (q : PassOf T). view q) (m.here w.0)))
 
   -- what the new view is
-  joined_is : view new ≡ joints glue (lefts workers v0) views
-  joined_is = joint.view_is ∙ (λ i. joints glue ((hired.view_is ∙ ap (λ (n : ℕ). lefts n v0) all_hired) i) views)
+  joined_is : view new ≡ joints part.join (lefts workers v0) views
+  joined_is = joint.view_is ∙ (λ i. joints part.join ((hired.view_is ∙ ap (λ (n : ℕ). lefts n v0) all_hired) i) views)
 
   numbers_of : (j : ℕ) (lt : j < workers) → (view (mate j lt).pass).numbers ≡ given v0 j ∷ []
-  numbers_of j lt = let m = mate j lt in ap (λ f. f.numbers) m.inserted.face_is ∙ ap (λ (u : View Roots). u.numbers) m.start_is
+  numbers_of j lt = let m = mate j lt in ap (λ f. f.numbers) m.inserted.face_is ∙ ap (λ (u : View T). u.numbers) m.start_is
 
   born_of_mate : (j : ℕ) (lt : j < workers) → (view (mate j lt).pass).born ≡ []
-  born_of_mate j lt = let m = mate j lt in ap (λ f. f.born) m.inserted.face_is ∙ ap (λ (u : View Roots). u.born) m.start_is
+  born_of_mate j lt = let m = mate j lt in ap (λ f. f.born) m.inserted.face_is ∙ ap (λ (u : View T). u.born) m.start_is
 
   has_own : (j : ℕ) (lt : j < workers) → Has (given v0 j) (view (mate j lt).pass).numbers
   has_own j lt = subst (λ (x : List ℕ). Has (given v0 j) x) (sym (numbers_of j lt)) (inl refl)
 
-  taken_of : (j : ℕ) (lt : j < workers) → HasTaken roots_of house_of Told table about (view (mate j lt).pass) (view new)
+  taken_of : (j : ℕ) (lt : j < workers) → HasTaken part (view (mate j lt).pass) (view new)
   taken_of j lt = joint.taken (mate j lt).pass (mate j lt).there
 
   has_view : (j : ℕ) (lt : j < workers) → Has (view (mate j lt).pass) views
-  has_view j lt = has_map (λ (p : PassOf Roots). view p) (mate j lt).pass passes (mate j lt).there
+  has_view j lt = has_map (λ (p : PassOf T). view p) (mate j lt).pass passes (mate j lt).there
 
   -- a whole pass is whole again
   pub whole_run : Whole v0 → Whole (view new)
-  whole_run whole = subst (λ (u : View Roots). Whole u) (sym joined_is)
-      (whole_again glue v0 workers views whole
-      (λ u h. (let m = mate_of u h in ap (λ (x : View Roots). x.born) m.2 ∙ born_of_mate m.0 m.1))
+  whole_run whole = subst (λ (u : View T). Whole u) (sym joined_is)
+      (whole_again part.join v0 workers views whole
+      (λ u h. (let m = mate_of u h in ap (λ (x : View T). x.born) m.2 ∙ born_of_mate m.0 m.1))
       (λ j lt. (view (mate j lt).pass, has_view j lt, has_own j lt)))
 
   -- the calls of a worker
@@ -198,9 +196,9 @@ module _ (table : TableId) (about : About) (cut : Roots → Roots) (glue : Roots
   calls_of j lt =
       let m = mate j lt in
       let n = given v0 j in
-      let start : (view m.start).number ≡ n = ap (λ (u : View Roots). u.number) m.start_is in
+      let start : (view m.start).number ≡ n = ap (λ (u : View T). u.number) m.start_is in
       let own = subst (λ (x : ℕ). calls (view m.pass).seen x ≡ calls (view m.start).seen x ++ told x (picked trace (lines_of j)) (picked replies (lines_of j))) start m.inserted.own in
-      let none : calls (view m.start).seen n ≡ [] = ap (λ (u : View Roots). calls u.seen n) m.start_is ∙ (ap (λ (h : History). calls h n) (lefts_stay j v0).seen ∙ m.fresh) in
+      let none : calls (view m.start).seen n ≡ [] = ap (λ (u : View T). calls u.seen n) m.start_is ∙ (ap (λ (h : History). calls h n) (lefts_stay j v0).seen ∙ m.fresh) in
       (taken_of j lt).calls n (has_own j lt)
       ∙ (own ∙ (ap (λ (h : History). h ++ told n (picked trace (lines_of j)) (picked replies (lines_of j))) none
       ∙ sym (told_picked n trace replies (lines_of j) one_each (mine_below (length trace) workers block j))))
@@ -227,22 +225,22 @@ module _ (table : TableId) (about : About) (cut : Roots → Roots) (glue : Roots
         answer = picked_at replies (lines_of j) (i / (block * workers) * block + i % block) i reply (subst (λ (n : ℕ). All (λ k. k < n) (lines_of j)) (sym one_each) below) at b;
       }
 
-  pub full_run : FullAreBarred about trace replies (view new)
+  pub full_run : FullAreBarred part store.about trace replies (view new)
   full_run i v reply a b =
       let t = turn i v reply a b in
       let m = mate t.worker t.among in
       let k = taken_of t.worker t.among in
-      barred_more about (view m.pass).known (view new).known (view m.pass).root.roots (view new).root.roots v reply k.known k.roots_of (m.inserted.barred t.number v reply t.line t.answer)
+      barred_more part refusals store m.pass new v reply m.inserted.rest joint.rest k.known k.roots (m.inserted.barred t.number v reply t.line t.answer)
 
   callers : List ℕ
   callers = map (given v0) (range_with_len 0 workers)
 
-  among_run : AgreesAmongOthers about.flags trace replies workers block v0.seen (view new).seen callers
+  among_run : AgreesAmongOthers store.about.flags trace replies workers block v0.seen (view new).seen callers
   unfolding callers
   among_run = record {
     one_each = one_each;
     legal = subst (λ (x : About). IsLegal x.flags (view new).seen) joint.rest.seat.about_is joint.rest.seat.sound.legal;
-    extends = subst (λ (h : History). Extends h (view new).seen) (ap (λ (u : View Roots). u.seen) (hired.view_is) ∙ (lefts_stay (length crew) v0).seen) joint.base_taken.seen;
+    extends = subst (λ (h : History). Extends h (view new).seen) (ap (λ (u : View T). u.seen) (hired.view_is) ∙ (lefts_stay (length crew) v0).seen) joint.base_taken.seen;
     callers_count = length-map-range_with_len (given v0) 0 workers;
     callers_differ = λ j k c a b.
         (let x = at_numbered (given v0) workers j c a in
@@ -259,7 +257,7 @@ module _ (table : TableId) (about : About) (cut : Roots → Roots) (glue : Roots
         (let t = turn i v reply a b in
         let m = mate t.worker t.among in
         let k = taken_of t.worker t.among in
-        m.inserted.never t.number v reply t.line t.answer full new joint.rest k.known k.roots_of);
+        m.inserted.never t.number v reply t.line t.answer full new joint.rest k.known k.roots);
   }
 
   joined_run : (c : ℕ) → Contains callers c → Has c (view new).numbers
@@ -268,7 +266,7 @@ module _ (table : TableId) (about : About) (cut : Roots → Roots) (glue : Roots
       let at = at-contained callers c there in
       let x = at_numbered (given v0) workers at.0 c at.1 in
       subst (λ (n : ℕ). Has n (view new).numbers) (sym x.1)
-      (subst (λ (u : View Roots). Has (given v0 at.0) u.numbers) (sym joined_is) (numbers_other glue (lefts workers v0) (view (mate at.0 x.0).pass) views (given v0 at.0) (has_view at.0 x.0) (has_own at.0 x.0)))
+      (subst (λ (u : View T). Has (given v0 at.0) u.numbers) (sym joined_is) (numbers_other part.join (lefts workers v0) (view (mate at.0 x.0).pass) views (given v0 at.0) (has_view at.0 x.0) (has_own at.0 x.0)))
 
   -- whoever called since has more calls than before
   silent : (more : History) → (view new).seen ≡ v0.seen ++ more → (e : Entry) → Contains more e → length (calls (view new).seen e.caller) ≤ length (calls v0.seen e.caller) → ⊥
@@ -283,99 +281,91 @@ module _ (table : TableId) (about : About) (cut : Roots → Roots) (glue : Roots
 
   old_calls : (c : ℕ) → Has c v0.numbers → calls (view new).seen c ≡ calls v0.seen c
   old_calls c h =
-      joint.base_taken.calls c (subst (λ (u : View Roots). Has c u.numbers) (sym now_is) (subst (λ (x : List ℕ). Has c x) (sym (lefts_stay workers v0).numbers) h))
-      ∙ ap (λ (u : History). calls u c) (ap (λ (u : View Roots). u.seen) now_is ∙ (lefts_stay workers v0).seen)
+      joint.base_taken.calls c (subst (λ (u : View T). Has c u.numbers) (sym now_is) (subst (λ (x : List ℕ). Has c x) (sym (lefts_stay workers v0).numbers) h))
+      ∙ ap (λ (u : History). calls u c) (ap (λ (u : View T). u.seen) now_is ∙ (lefts_stay workers v0).seen)
 
   -- who called is a worker
   caller_of : Whole v0 → (more : History) → (view new).seen ≡ v0.seen ++ more → (e : Entry) → Contains more e → Contains callers e.caller
   unfolding callers
   caller_of whole more is e there =
       let c = e.caller in
-      let all = has_all table about new joint.rest (whole_run whole) in
+      let all = joint.rest.seat.sound.whole (whole_run whole) in
       ⊎_elim
       (λ (h : Has c (view new).numbers). ⊎_elim
       (λ (old : Has c (lefts workers v0).numbers). absurd (silent more is e there (let same = ap (λ (h : History). length h) (old_calls c (subst (λ (x : List ℕ). Has c x) (lefts_stay workers v0).numbers old)) in omega (arith, same))))
-      (λ (f : (w : View Roots) × Has w views × Has c w.numbers).
+      (λ (f : (w : View T) × Has w views × Has c w.numbers).
       let m = mate_of f.0 f.1 in
-      let own : Has c (given v0 m.0 ∷ []) = subst (λ (x : List ℕ). Has c x) (ap (λ (u : View Roots). u.numbers) m.2 ∙ numbers_of m.0 m.1) f.2 in
+      let own : Has c (given v0 m.0 ∷ []) = subst (λ (x : List ℕ). Has c x) (ap (λ (u : View T). u.numbers) m.2 ∙ numbers_of m.0 m.1) f.2 in
       ⊎_elim (λ (same : c ≡ given v0 m.0). contained-at callers c (m.0, numbered_at (given v0) workers m.0 m.1 ∙ ap Some (sym same))) (λ (no : ⊥). absurd no) own)
-      (numbers_either glue (lefts workers v0) views c (subst (λ (u : View Roots). Has c u.numbers) joined_is h)))
+      (numbers_either part.join (lefts workers v0) views c (subst (λ (u : View T). Has c u.numbers) joined_is h)))
       (λ (none : Has c (view new).numbers → ⊥). absurd (silent more is e there (let nothing = ap (λ (h : History). length h) (all.callers c none) in omega (arith, nothing))))
       (has_or_not c (view new).numbers)
 
-  pub history_run : OneHistory about trace replies workers block v0 (view new)
+  pub history_run : OneHistory store.about trace replies workers block v0 (view new)
   unfolding callers
   history_run = (callers, record { among = among_run; joined = joined_run; alone = λ whole. record { among = among_run; no_others = caller_of whole } })
 
   -- the nodes that came in
-  pub nodes_run : NewNodesAreOfLines about trace v0 (view new)
+  pub nodes_run : NewNodesAreOfLines store.about trace v0 (view new)
   nodes_run whole index pair there =
-      let all = has_all table about new joint.rest (whole_run whole) in
-      let made : Has index (joints glue (lefts workers v0) views).made = subst (λ (u : View Roots). Has index u.made) joined_is (all.made index pair there) in
+      let all = joint.rest.seat.sound.whole (whole_run whole) in
+      let made : Has index (joints part.join (lefts workers v0) views).made = subst (λ (u : View T). Has index u.made) joined_is (all.made index pair there) in
       ⊎_elim
       (λ (old : Has index (lefts workers v0).made).
-      let h = subst (λ (x : List ℕ). Has index x) (sym (ap (λ (u : View Roots). u.made) now_is)) old in
+      let h = subst (λ (x : List ℕ). Has index x) (sym (ap (λ (u : View T). u.made) now_is)) old in
       let k = hired.rest.seat.sound.made index h in
-      inl (k.0, subst (λ (x : List (ℕ × ℕ)). Has (index, k.0) x) (ap (λ (u : View Roots). u.known) now_is ∙ (lefts_stay workers v0).known) k.1))
-      (λ (f : (w : View Roots) × Has w views × Has index w.made).
+      inl (k.0, subst (λ (x : List (ℕ × ℕ)). Has (index, k.0) x) (ap (λ (u : View T). u.known) now_is ∙ (lefts_stay workers v0).known) k.1))
+      (λ (f : (w : View T) × Has w views × Has index w.made).
       let t = mate_of f.0 f.1 in
       let m = mate t.0 t.1 in
-      let here = subst (λ (u : View Roots). Has index u.made) t.2 f.2 in
+      let here = subst (λ (u : View T). Has index u.made) t.2 f.2 in
       ⊎_elim
-      (λ (before : Has index (view m.start).made). absurd (subst (λ (x : List ℕ). Has index x) (ap (λ (u : View Roots). u.made) m.start_is) before))
-      (λ (of : IsOfOne about (view m.pass).known (picked trace (lines_of t.0)) index).
-      let o = of_one_more about (view m.pass).known (view new).known (picked trace (lines_of t.0)) index (taken_of t.0 t.1).known of in
+      (λ (before : Has index (view m.start).made). absurd (subst (λ (x : List ℕ). Has index x) (ap (λ (u : View T). u.made) m.start_is) before))
+      (λ (of : IsOfOne store.about (view m.pass).known (picked trace (lines_of t.0)) index).
+      let o = of_one_more store.about (view m.pass).known (view new).known (picked trace (lines_of t.0)) index (taken_of t.0 t.1).known of in
       inr (o.0, picked_has trace (lines_of t.0) o.0 o.1, o.2))
       (m.inserted.made index here))
-      (made_either glue (lefts workers v0) views index made)
+      (made_either part.join (lefts workers v0) views index made)
 
   -- the probes
-  few_probes : (j : ℕ) (lt : j < workers) → (view (mate j lt).pass).probes ≤ puts_of_worker about trace replies workers block j
+  few_probes : (j : ℕ) (lt : j < workers) → (view (mate j lt).pass).probes ≤ puts_of_worker store.about trace replies workers block j
   few_probes j lt =
       let m = mate j lt in
-      let none : (view m.start).probes ≡ 0 = ap (λ (u : View Roots). u.probes) m.start_is in
-      let puts = ap (λ (o : Option Vector). puts_of about o (picked trace (lines_of j)) (picked replies (lines_of j))) m.start_tree in
+      let none : (view m.start).probes ≡ 0 = ap (λ (u : View T). u.probes) m.start_is in
+      let puts = ap (λ (o : Option Vector). puts_of store.about o (picked trace (lines_of j)) (picked replies (lines_of j))) m.start_tree in
       omega (arith, m.inserted.probes, none, puts)
 
-  view_at : (j : ℕ) (d : View Roots) (lt : j < workers) → get_or views j d ≡ view (mate j lt).pass
+  view_at : (j : ℕ) (d : View T) (lt : j < workers) → get_or views j d ≡ view (mate j lt).pass
   view_at j d lt =
       let here : j < length after = omega (arith, all_after, all_hired) in
       let one = (placed after j here).one in
-      get_or-map (λ (p : PassOf Roots). view p) passes j one.pass d (omega (arith, length-map after (λ (w : Worker Roots). w.pass)))
-      ∙ (ap (λ (p : PassOf Roots). view p) (get_or-map (λ (w : Worker Roots). w.pass) after j one one.pass here) ∙ ap (λ (p : PassOf Roots). view p) ((mate j lt).here one))
+      get_or-map (λ (p : PassOf T). view p) passes j one.pass d (omega (arith, length-map after (λ (w : Worker T). w.pass)))
+      ∙ (ap (λ (p : PassOf T). view p) (get_or-map (λ (w : Worker T). w.pass) after j one one.pass here) ∙ ap (λ (p : PassOf T). view p) ((mate j lt).here one))
 
-  pub probes_run : (view new).probes ≤ v0.probes + puts_of_all about trace replies workers block
+  pub probes_run : (view new).probes ≤ v0.probes + puts_of_all store.about trace replies workers block
   probes_run =
-      let most = puts_of_worker about trace replies workers block in
-      let long : length views ≡ workers = length-map passes (λ (p : PassOf Roots). view p) ∙ (length-map after (λ (w : Worker Roots). w.pass) ∙ (all_after ∙ all_hired)) in
-      let few = probes_within glue (lefts workers v0) views most 0
+      let most = puts_of_worker store.about trace replies workers block in
+      let long : length views ≡ workers = length-map passes (λ (p : PassOf T). view p) ∙ (length-map after (λ (w : Worker T). w.pass) ∙ (all_after ∙ all_hired)) in
+      let few = probes_within part.join (lefts workers v0) views most 0
       (λ j d lt. (let inside : j < workers = omega (arith, long) in subst (λ (n : ℕ). (get_or views j d).probes ≤ most n) (let e : j ≡ 0 + j = omega arith in e)
-      (subst (λ (u : View Roots). u.probes ≤ most j) (sym (view_at j d inside)) (few_probes j inside)))) in
-      let same = ap (λ (u : View Roots). u.probes) joined_is in
+      (subst (λ (u : View T). u.probes ≤ most j) (sym (view_at j d inside)) (few_probes j inside)))) in
+      let same = ap (λ (u : View T). u.probes) joined_is in
       let total = ap (λ (n : ℕ). sum (map most (range_with_len 0 n))) long in
       omega (arith, few, same, total, (lefts_stay workers v0).probes)
 
   -- what the pass had
-  kept_run : KeepsPass base new
+  kept_run : KeepsPass part base new
   kept_run =
       let stay = lefts_stay workers v0 in
       record {
         pass_is = joint.pass_is ∙ (λ i. record (hired.pass_is i) { seat = new.seat; nodes_count = new.nodes_count; names_count = new.names_count });
-        number = ap (λ (u : View Roots). u.number) joined_is ∙ (joints_number glue (lefts workers v0) views ∙ stay.number);
-        numbers = λ c h. subst (λ (u : View Roots). Has c u.numbers) (sym joined_is) (numbers_first glue (lefts workers v0) views c (subst (λ (x : List ℕ). Has c x) (sym stay.numbers) h));
+        number = ap (λ (u : View T). u.number) joined_is ∙ (joints_number part.join (lefts workers v0) views ∙ stay.number);
+        numbers = λ c h. subst (λ (u : View T). Has c u.numbers) (sym joined_is) (numbers_first part.join (lefts workers v0) views c (subst (λ (x : List ℕ). Has c x) (sym stay.numbers) h));
         calls_stay = old_calls;
-        known = λ i x h. joint.base_taken.known i x (subst (λ (y : List (ℕ × ℕ)). Has (i, x) y) (sym (ap (λ (u : View Roots). u.known) now_is ∙ stay.known)) h);
-        roots = λ i x h. joint.base_taken.roots_of i x (subst (λ (y : Roots). Has (i, x) y.roots) (sym (ap (λ (u : View Roots). u.root) now_is ∙ stay.root)) h);
+        known = λ i x h. joint.base_taken.known i x (subst (λ (y : List (ℕ × ℕ)). Has (i, x) y) (sym (ap (λ (u : View T). u.known) now_is ∙ stay.known)) h);
+        roots = subst (λ (pairs : List (ℕ × ℕ)). IsPart pairs (root_pairs part (view new))) (ap (λ (u : View T). root_pairs part u) now_is ∙ (λ i. part.roots (stay.about i) (stay.seen i) (stay.root i))) joint.base_taken.roots;
       }
 
   -- all of it
-  pub record Runs : Type 0 where
-    pub one_history : OneHistory about trace replies workers block v0 (view new)
-    pub kept : KeepsPass base new
-    pub whole : Whole v0 → Whole (view new)
-    pub nodes : NewNodesAreOfLines about trace v0 (view new)
-    pub full : FullAreBarred about trace replies (view new)
-    pub probes : (view new).probes ≤ v0.probes + puts_of_all about trace replies workers block
-
-  pub runs : Runs
+  pub runs : HasRun part store.about trace replies workers block base new
   runs = record { one_history = history_run; kept = kept_run; whole = whole_run; nodes = nodes_run; full = full_run; probes = probes_run }

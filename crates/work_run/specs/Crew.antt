@@ -1,59 +1,50 @@
 -- Workers with a pass each: split from one pass in turn, and joined into it again.
 use Rattle.std.specs.Prelude.{◌≡◌, ◌<◌, ◌≤◌, ℕ, zero, suc, List, [], ◌∷◌, false, length, map, slice_index_or, vec_capacity}
-use Rattle.atomic_table.specs.Seated.{TableId}
 use Rattle.tree_shape.specs.Tree.{Has, IsPart}
-use Rattle.tdb_base.specs.History.{History}
-use Rattle.tdb_base.specs.Legal.{Extends}
 use Rattle.pair_rule.specs.declared.view.View.{View}
-use Rattle.pair_rule.specs.declared.sizes.About.{About}
 use Rattle.pair_rule.specs.declared.pass.PassOf.{PassOf}
-use Rattle.pair_rule.specs.Rest.{AtRest, IsUnknown, KeepsCalls, Whole, view}
-use Rattle.pair_rule.specs.View.{left, right, joined}
+use Rattle.pair_rule.specs.Rest.{AtRest, IsUnknown, Whole, view}
+use Rattle.pair_rule.specs.Part.{Store, Part}
+use Rattle.pair_rule.specs.Splits.{HasTaken}
+use Rattle.pair_rule.specs.View.{parent_view, child_view, joined_view}
 use Rattle.work_run.specs.declared.worker.Worker.{Worker}
 
 module _ {T : Type 0} where
   -- a view from which so many passes were split
   abbrev pub lefts : ℕ → View T → View T
   lefts zero v = v
-  lefts (suc n) v = left (lefts n v)
+  lefts (suc n) v = parent_view (lefts n v)
 
   -- a view into which others were joined, the last in the list first
   abbrev pub joints : (T → T → T) → View T → List (View T) → View T
-  joints glue v [] = v
-  joints glue v (w ∷ ws) = joined glue (joints glue v ws) w
+  joints join v [] = v
+  joints join v (w ∷ ws) = joined_view join (joints join v ws) w
 
-  module _ (roots : About → History → T → List (ℕ × ℕ)) (house : About → List (ℕ × ℕ) → Type 0) (told : About → View T → Type 0) (table : TableId) (about : About) where
+  module _ (part : Part T) (store : Store) where
     -- the worker was hired, and has not begun: its pass was split from one with this view, and there is room for so many replies
-    pub record IsHired (cut : T → T) (before : View T) (number room : ℕ) (worker : Worker T) : Type 0 where
+    pub record IsHired (before : View T) (number room : ℕ) (worker : Worker T) : Type 0 where
       pub number_is : worker.number ≡ number
-      pub rest : AtRest roots house told table about worker.pass
-      pub view_is : view worker.pass ≡ right cut before
+      pub rest : AtRest part store worker.pass
+      pub view_is : view worker.pass ≡ child_view part.split before
       pub unknown : IsUnknown (view worker.pass).number before
       pub no_tree : worker.pass.has_last ≡ false
       pub no_replies : worker.replies.items ≡ []
       pub room_is : room ≤ vec_capacity worker.replies
 
     -- these workers were hired in turn, with passes that were split from one pass, and room for so many replies each
-    pub record Hired (cut : T → T) (rooms : ℕ → ℕ) (base now : PassOf T) (crew : List (Worker T)) : Type 0 where
-      pub rest : AtRest roots house told table about now
+    pub record Hired (rooms : ℕ → ℕ) (base now : PassOf T) (crew : List (Worker T)) : Type 0 where
+      pub rest : AtRest part store now
       pub pass_is : now ≡ record base { seat = now.seat }
       pub view_is : view now ≡ lefts (length crew) (view base)
-      pub each : (j : ℕ) (d : Worker T) → j < length crew → IsHired cut (lefts j (view base)) j (rooms j) (slice_index_or crew j d)
-
-    -- the view has all that another had
-    pub record HasTaken (other now : View T) : Type 0 where
-      pub seen : Extends other.seen now.seen
-      pub calls : KeepsCalls other now
-      pub known : IsPart other.known now.known
-      pub roots_of : IsPart (roots about other.seen other.root) (roots about now.seen now.root)
+      pub each : (j : ℕ) (d : Worker T) → j < length crew → IsHired (lefts j (view base)) j (rooms j) (slice_index_or crew j d)
 
     -- other passes were joined into one
-    pub record Joined (glue : T → T → T) (base now : PassOf T) (others : List (PassOf T)) : Type 0 where
-      pub rest : AtRest roots house told table about now
+    pub record Joined (base now : PassOf T) (others : List (PassOf T)) : Type 0 where
+      pub rest : AtRest part store now
       pub pass_is : now ≡ record base { seat = now.seat; nodes_count = now.nodes_count; names_count = now.names_count }
-      pub view_is : view now ≡ joints glue (view base) (map view others)
-      pub base_taken : HasTaken (view base) (view now)
-      pub taken : (p : PassOf T) → Has p others → HasTaken (view p) (view now)
+      pub view_is : view now ≡ joints part.join (view base) (map view others)
+      pub base_taken : HasTaken part (view base) (view now)
+      pub taken : (p : PassOf T) → Has p others → HasTaken part (view p) (view now)
 
   -- a pass from which passes were split and into which they were joined again, while none of them did anything
   pub record Unused (old new : PassOf T) : Type 0 where

@@ -1,6 +1,5 @@
 -- What insertions leave of the pass that makes them.
 use Rattle.std.specs.Prelude.{◌≡◌, ◌+◌, ◌≤◌, ◌⊎◌, ℕ, true, List, [], ◌∷◌, ◌++◌, Option, Some, length, slice_get, if◌then◌else◌}
-use Rattle.atomic_table.specs.Seated.{TableId}
 use Rattle.tree_shape.specs.Tree.{Has, IsPart}
 use Rattle.tdb_base.specs.Agrees.{told}
 use Rattle.tdb_base.specs.History.{Vector, calls}
@@ -10,9 +9,8 @@ use Rattle.tdb_base.specs.declared.reply.Reply.{Reply}
 use Rattle.pair_rule.specs.declared.sizes.About.{About}
 use Rattle.pair_rule.specs.declared.pass.PassOf.{PassOf}
 use Rattle.pair_rule.specs.View.{face}
-use Rattle.pair_rule.specs.Rest.{view, last_vector}
-use Rattle.root_plain.specs.declared.root.Roots.{Roots}
-use Rattle.root_plain.specs.Plays.{Rests}
+use Rattle.pair_rule.specs.Part.{Store, Part, root_pairs}
+use Rattle.pair_rule.specs.Rest.{AtRest, view, last_vector}
 use Rattle.tree_store.specs.Store.{NeverNamed}
 use Rattle.tree_store.specs.Vectors.{puts_after}
 use Rattle.work_run.specs.Full.{Barred, IsOfOne}
@@ -34,16 +32,17 @@ puts_of about last (v ∷ vectors) [] = 0
 puts_of about last (v ∷ vectors) (reply ∷ replies) = puts_after about last v + puts_of about (last_after last v reply) vectors replies
 
 -- the pass inserted these vectors, one after the other, and was answered so
-pub record Inserted (table : TableId) (about : About) (vectors : List Vector) (replies : List Reply) (old new : PassOf Roots) : Type 0 where
+pub record Inserted {T : Type 0} (part : Part T) (store : Store) (vectors : List Vector) (replies : List Reply) (old new : PassOf T) : Type 0 where
   pub one_each : length replies ≡ length vectors
-  pub rest : Rests table about new
+  pub rest : AtRest part store new
   pub face_is : face (view new) ≡ face (view old)
   pub seen : Extends (view old).seen (view new).seen
   pub known : IsPart (view old).known (view new).known
-  pub roots : IsPart (view old).root.roots (view new).root.roots
+  pub roots : IsPart (root_pairs part (view old)) (root_pairs part (view new))
   pub own : calls (view new).seen (view old).number ≡ calls (view old).seen (view old).number ++ told (view old).number vectors replies
-  pub never : (i : ℕ) (v : Vector) (reply : Reply) → slice_get vectors i ≡ Some v → slice_get replies i ≡ Some reply → is_full reply ≡ true → NeverNamed table about new v
-  pub barred : (i : ℕ) (v : Vector) (reply : Reply) → slice_get vectors i ≡ Some v → slice_get replies i ≡ Some reply → Barred about (view new).known (view new).root.roots v reply
-  pub made : (index : ℕ) → Has index (view new).made → Has index (view old).made ⊎ IsOfOne about (view new).known vectors index
+  pub never : (i : ℕ) (v : Vector) (reply : Reply) → slice_get vectors i ≡ Some v → slice_get replies i ≡ Some reply → is_full reply ≡ true → NeverNamed part store new v
+  pub barred : (i : ℕ) (v : Vector) (reply : Reply) → slice_get vectors i ≡ Some v → slice_get replies i ≡ Some reply
+      → Barred part store.about (view new).known (root_pairs part (view new)) v reply
+  pub made : (index : ℕ) → Has index (view new).made → Has index (view old).made ⊎ IsOfOne store.about (view new).known vectors index
   pub last : last_vector new ≡ last_of (last_vector old) vectors replies
-  pub probes : (view new).probes ≤ (view old).probes + puts_of about (last_vector old) vectors replies
+  pub probes : (view new).probes ≤ (view old).probes + puts_of store.about (last_vector old) vectors replies

@@ -1,7 +1,7 @@
-//! Workers are hired, each with a pass that is split from one pass, and dismissed: their passes are joined into it again.
+//! Workers are made, each with a pass that is split from one pass, and their passes are joined into it again.
 ghost use Rattle.std.specs.Prelude.{◌≡◌, ◌≤◌, ◌^◌, IfOk, OnOk, OnErr, All, length, map};
 ghost use Rattle.pair_rule.specs.Rest.{AtRest, view};
-ghost use Rattle.pair_rule.specs.View.{left};
+ghost use Rattle.pair_rule.specs.View.{parent_view};
 ghost use Rattle.tdb_base.specs.Lines.{mine};
 ghost use Rattle.work_run.specs.Crew.{IsHired, Hired, Joined, Unused};
 
@@ -13,17 +13,17 @@ use tdb_base::NoMemory;
 use tree_store::TreeStore;
 
 // A worker with this number, with a pass of its own and room for so many replies.
-fn hire_one<R: RootPart<W, F>, const W: u32, const F: u32>(
+fn split_worker<R: RootPart<W, F>, const W: u32, const F: u32>(
     alloc: Global,
     store: &TreeStore<R, W, F>,
     pass: &mut Pass<R, W, F>,
     number: u64,
     room: u64,
 ) -> Result<Worker<R::View>, NoMemory>
-    requires { AtRest R.roots R.house R.told store.now.nodes.table.table.shared.table_id store.now.nodes.table.about pass.old }
-    ensures rest { AtRest R.roots R.house R.told store.now.nodes.table.table.shared.table_id store.now.nodes.table.about pass.new }
-    ensures hired { IfOk result (λ worker. IsHired R.roots R.house R.told store.now.nodes.table.table.shared.table_id store.now.nodes.table.about R.cut (view pass.old) number room worker) }
-    ensures view { OnOk result (view pass.new ≡ left (view pass.old)) }
+    requires { AtRest R.part store.now pass.old }
+    ensures rest { AtRest R.part store.now pass.new }
+    ensures hired { IfOk result (λ worker. IsHired R.part store.now (view pass.old) number room worker) }
+    ensures view { OnOk result (view pass.new ≡ parent_view (view pass.old)) }
     ensures pass { OnOk result (pass.new ≡ record pass.old { seat = pass.new.seat }) }
     ensures refused { OnErr result (pass.new ≡ pass.old) }
 {
@@ -34,7 +34,7 @@ fn hire_one<R: RootPart<W, F>, const W: u32, const F: u32>(
 
 /// So many workers, each with a pass that is split from this one, and with room for the replies to its lines. After `NoMemory` the passes that
 /// were split are joined back.
-pub(crate) fn hire<R: RootPart<W, F>, const W: u32, const F: u32>(
+pub(crate) fn split_workers<R: RootPart<W, F>, const W: u32, const F: u32>(
     alloc: Global,
     store: &TreeStore<R, W, F>,
     pass: &mut Pass<R, W, F>,
@@ -42,20 +42,20 @@ pub(crate) fn hire<R: RootPart<W, F>, const W: u32, const F: u32>(
     workers: u64,
     block: u64,
 ) -> Result<Vec<Worker<R::View>>, NoMemory>
-    requires rest { AtRest R.roots R.house R.told store.now.nodes.table.table.shared.table_id store.now.nodes.table.about pass.old }
+    requires rest { AtRest R.part store.now pass.old }
     requires workers { workers ≤ 64 }
     requires block { (1 ≤ block) × (block ≤ 65536) }
     requires lines { lines ≤ 2 ^ 32 }
-    ensures hired { IfOk result (λ crew. Hired R.roots R.house R.told store.now.nodes.table.table.shared.table_id store.now.nodes.table.about R.cut (λ j. length (mine lines workers block j)) pass.old pass.new crew.items) }
+    ensures hired { IfOk result (λ crew. Hired R.part store.now (λ j. length (mine lines workers block j)) pass.old pass.new crew.items) }
     ensures all { IfOk result (λ crew. length crew.items ≡ workers) }
     ensures refused { OnErr result (Unused pass.old pass.new) }
-    ensures refused_rest { OnErr result (AtRest R.roots R.house R.told store.now.nodes.table.table.shared.table_id store.now.nodes.table.about pass.new) }
+    ensures refused_rest { OnErr result (AtRest R.part store.now pass.new) }
 {
     let mut crew = Vec::with_capacity(alloc, workers as usize)?;
     for number in 0..workers {
         let room = count_of(lines, workers, block, number);
-        let Ok(worker) = hire_one(alloc, store, pass, number, room) else {
-            dismiss(store, pass, crew);
+        let Ok(worker) = split_worker(alloc, store, pass, number, room) else {
+            join_workers(store, pass, crew);
             return Err(NoMemory);
         };
         let Ok(()) = crew.push(worker) else {
@@ -66,14 +66,14 @@ pub(crate) fn hire<R: RootPart<W, F>, const W: u32, const F: u32>(
 }
 
 /// The passes of the workers are joined into the pass, and their replies are dropped.
-pub(crate) fn dismiss<R: RootPart<W, F>, const W: u32, const F: u32>(
+pub(crate) fn join_workers<R: RootPart<W, F>, const W: u32, const F: u32>(
     store: &TreeStore<R, W, F>,
     pass: &mut Pass<R, W, F>,
     crew: Vec<Worker<R::View>>,
 )
-    requires rest { AtRest R.roots R.house R.told store.now.nodes.table.table.shared.table_id store.now.nodes.table.about pass.old }
-    requires crew { All (λ w. AtRest R.roots R.house R.told store.now.nodes.table.table.shared.table_id store.now.nodes.table.about w.pass) crew.items }
-    ensures { Joined R.roots R.house R.told store.now.nodes.table.table.shared.table_id store.now.nodes.table.about R.glue pass.old pass.new (map (λ w. w.pass) crew.items) }
+    requires rest { AtRest R.part store.now pass.old }
+    requires crew { All (λ w. AtRest R.part store.now w.pass) crew.items }
+    ensures { Joined R.part store.now pass.old pass.new (map (λ w. w.pass) crew.items) }
 {
     let mut left = crew;
     while let Some(worker) = left.pop() {

@@ -1,6 +1,7 @@
 // Runs of one to 64 workers, looked at from the outside: what they answered to which lines, and when the gate was called.
 ghost use Rattle.std.specs.Prelude.{◌≡◌, ◌<◌, ◌≤◌, All, IfOk, length};
-ghost use Rattle.root_plain.specs.Plays.{Rests};
+ghost use Rattle.pair_rule.specs.Rest.{AtRest};
+ghost use Rattle.root_plain.specs.Plain.{plain};
 ghost use Rattle.tree_store.specs.Vectors.{IsVector};
 
 use crate::run_lines;
@@ -27,8 +28,8 @@ pub(crate) fn store(
     nodes: u32,
     roots: u32,
 ) -> Result<(Store, StorePass), Fail>
-    ensures width { IfOk result (λ made. made.0.nodes.table.about.width ≡ 16) }
-    ensures rest { IfOk result (λ made. Rests made.0.nodes.table.table.shared.table_id made.0.nodes.table.about made.1) }
+    ensures width { IfOk result (λ made. made.0.about.width ≡ 16) }
+    ensures rest { IfOk result (λ made. AtRest plain made.0 made.1) }
 {
     let sizes = Sizes {
         nodes,
@@ -47,8 +48,8 @@ pub(crate) fn lines(
     store: &Store,
     text: &[u8],
 ) -> Result<Trace, Fail>
-    requires width { store.now.nodes.table.about.width ≡ 16 }
-    ensures fit { IfOk result (λ trace. All (IsVector store.now.nodes.table.about) trace) }
+    requires width { store.now.about.width ≡ 16 }
+    ensures fit { IfOk result (λ trace. All (IsVector store.now.about) trace) }
 {
     let trace = read_trace(alloc, text, 16)?;
     let shape = &store.shape;
@@ -67,9 +68,9 @@ fn run<R: Threads + Abort + Sync, G: Gate>(
     block: u64,
     gate: &G,
 ) -> Result<Vec<Reply>, NoMemory>
-    requires rest { Rests store.now.nodes.table.table.shared.table_id store.now.nodes.table.about pass.old }
-    requires fit { All (IsVector store.now.nodes.table.about) trace.now }
-    ensures rest { Rests store.now.nodes.table.table.shared.table_id store.now.nodes.table.about pass.new }
+    requires rest { AtRest plain store.now pass.old }
+    requires fit { All (IsVector store.now.about) trace.now }
+    ensures rest { AtRest plain store.now pass.new }
     ensures all { IfOk result (λ replies. length replies.items ≡ length trace.now) }
 {
     assert!(rt; trace.len() <= 4_294_967_296);
@@ -91,9 +92,9 @@ pub(crate) fn run_or_retry<R: Threads + Abort + Sync, G: Gate>(
     block: u64,
     gate: &G,
 ) -> Result<Vec<Reply>, NoMemory>
-    requires rest { Rests store.now.nodes.table.table.shared.table_id store.now.nodes.table.about pass.old }
-    requires fit { All (IsVector store.now.nodes.table.about) trace.now }
-    ensures rest { Rests store.now.nodes.table.table.shared.table_id store.now.nodes.table.about pass.new }
+    requires rest { AtRest plain store.now pass.old }
+    requires fit { All (IsVector store.now.about) trace.now }
+    ensures rest { AtRest plain store.now pass.new }
     ensures all { IfOk result (λ replies. length replies.items ≡ length trace.now) }
 {
     let names = store.names_made(pass);

@@ -1,12 +1,12 @@
 //! Workers insert the lines of a trace.
-ghost use Rattle.std.specs.Prelude.{◌≡◌, ◌+◌, ◌<◌, ◌≤◌, ◌^◌, IfOk, OnOk, OnErr, All, length};
-ghost use Rattle.pair_rule.specs.Rest.{Whole, view};
-ghost use Rattle.root_plain.specs.Plays.{Rests};
+ghost use Rattle.std.specs.Prelude.{◌≡◌, ◌≤◌, ◌^◌, IfOk, OnErr, All, length};
+ghost use Rattle.pair_rule.specs.Rest.{AtRest};
+ghost use Rattle.root_plain.specs.Plain.{plain};
 ghost use Rattle.tree_store.specs.Vectors.{IsVector};
 ghost use Rattle.work_run.specs.Crew.{Unused};
-ghost use Rattle.work_run.specs.Ran.{KeepsPass, OneHistory, FullAreBarred, NewNodesAreOfLines, FewPuts, puts_of_all};
+ghost use Rattle.work_run.specs.Ran.{HasRun, FewPuts};
 
-use crate::crew::{dismiss, hire};
+use crate::crew::{join_workers, split_workers};
 use crate::place::place;
 use crate::work::work_at_once;
 use std::alloc::Global;
@@ -15,12 +15,14 @@ use tdb_base::{Gate, NoMemory, Reply};
 use trace_csv::Trace;
 use tree_store::{PlainPass, PlainStore};
 
-/// Lets 1 to 64 workers insert the lines of a trace, each with a pass of its own that is split from `pass` and joined into it again: the reply to each line.
+/// Lets 1 to 64 workers insert the lines of a trace, each with a pass of its own that is split from `pass` and joined into
+/// it again: the reply to each line.
 ///
-/// The lines are those of the store, at most `2^32`, and are dealt out in blocks of 1 to 65536. The replies form one history with what the pass had seen,
-/// each worker's lines once and in their order. A line is full only where a pair of its vector's tree has no place then. The gate is called round each
-/// line, with the worker's number from 0, the line's from 1, and the steps of its insertion. All memory is taken before the first line is inserted: after
-/// `NoMemory` none was, and the pass has what it had. It waits for nobody.
+/// The lines are those of the store, at most `2^32`, and are dealt out in blocks of 1 to 65536. The replies form one
+/// history with what the pass had seen, each worker's lines once and in their order. A line is full only where a pair of
+/// its vector's tree has no place then. The gate is called round each line, with the worker's number from 0, the line's
+/// from 1, and the steps of its insertion. All memory is taken before the first line is inserted: after `NoMemory` none
+/// was, and the pass has what it had. It waits for nobody.
 pub fn run_lines<R: Threads + Sync, G: Gate, const W: u32, const F: u32>(
     rt: &R,
     alloc: Global,
@@ -31,25 +33,21 @@ pub fn run_lines<R: Threads + Sync, G: Gate, const W: u32, const F: u32>(
     block: u64,
     gate: &G,
 ) -> Result<Vec<Reply>, NoMemory>
-    requires rest { Rests store.now.nodes.table.table.shared.table_id store.now.nodes.table.about pass.old }
+    requires rest { AtRest plain store.now pass.old }
     requires lines { length trace.now ≤ 2 ^ 32 }
-    requires fit { All (IsVector store.now.nodes.table.about) trace.now }
+    requires fit { All (IsVector store.now.about) trace.now }
     requires workers { (1 ≤ workers) × (workers ≤ 64) }
     requires block { (1 ≤ block) × (block ≤ 65536) }
-    ensures rest { Rests store.now.nodes.table.table.shared.table_id store.now.nodes.table.about pass.new }
-    ensures one_history { IfOk result (λ replies. OneHistory store.now.nodes.table.about trace.now replies.items workers block (view pass.old) (view pass.new)) }
-    ensures kept { OnOk result (KeepsPass pass.old pass.new) }
-    ensures whole { OnOk result (Whole (view pass.old) → Whole (view pass.new)) }
-    ensures nodes { OnOk result (NewNodesAreOfLines store.now.nodes.table.about trace.now (view pass.old) (view pass.new)) }
-    ensures full { IfOk result (λ replies. FullAreBarred store.now.nodes.table.about trace.now replies.items (view pass.new)) }
-    ensures probes { IfOk result (λ replies. (view pass.new).probes ≤ (view pass.old).probes + puts_of_all store.now.nodes.table.about trace.now replies.items workers block) }
+    ensures rest { AtRest plain store.now pass.new }
+    ensures ran { IfOk result (λ replies.
+        HasRun plain store.now.about trace.now replies.items workers block pass.old pass.new) }
     ensures refused { OnErr result (Unused pass.old pass.new) }
 {
     let mut replies = Vec::with_capacity(alloc, trace.len() as usize)?;
-    let mut crew = hire(alloc, store, pass, trace.len(), workers, block)?;
+    let mut crew = split_workers(alloc, store, pass, trace.len(), workers, block)?;
     work_at_once(rt, store, trace, workers, block, &mut crew, gate);
     place(&crew, trace.len(), block, &mut replies);
-    dismiss(store, pass, crew);
+    join_workers(store, pass, crew);
     Ok(replies)
 }
 

@@ -1,6 +1,7 @@
 // Many schedules of 2 to 8 workers over small tables and ample ones: what they answered is compared line by line, and read back.
 ghost use Rattle.std.specs.Prelude.{◌≡◌, ◌<◌, ◌≤◌, length};
-ghost use Rattle.root_plain.specs.Plays.{Rests};
+ghost use Rattle.pair_rule.specs.Rest.{AtRest};
+ghost use Rattle.root_plain.specs.Plain.{plain};
 
 use crate::crowd::{Store, StorePass, lines, run_or_retry, store};
 use std::alloc::Global;
@@ -149,8 +150,8 @@ fn count_names(rt: &impl Abort, trace: &Trace, replies: &[Reply]) -> (u64, u64)
 
 // The line is found under its identifier, if it was answered one.
 fn read_back(rt: &impl Abort, store: &Store, pass: &mut StorePass, line: &[u32], reply: Reply)
-    requires { Rests store.now.nodes.table.table.shared.table_id store.now.nodes.table.about pass.old }
-    ensures { Rests store.now.nodes.table.table.shared.table_id store.now.nodes.table.about pass.new }
+    requires { AtRest plain store.now pass.old }
+    ensures { AtRest plain store.now pass.new }
 {
     let Some(id) = reply.id() else {
         return;
@@ -171,9 +172,9 @@ fn read_all_back(
     trace: &Trace,
     replies: &[Reply],
 )
-    requires rest { Rests store.now.nodes.table.table.shared.table_id store.now.nodes.table.about pass.old }
+    requires rest { AtRest plain store.now pass.old }
     requires replies { length replies.now ≡ length trace.now }
-    ensures { Rests store.now.nodes.table.table.shared.table_id store.now.nodes.table.about pass.new }
+    ensures { AtRest plain store.now pass.new }
 {
     for i in 0..trace.len() {
         read_back(rt, store, pass, trace.line(i), replies[i as usize]);

@@ -1,18 +1,39 @@
 //! All workers insert their lines at once.
 ghost use Rattle.std.specs.Prelude.{◌≡◌, ℕ, ◌<◌, ◌≤◌, ◌^◌, All, length, slice_index_or};
+ghost use Rattle.root_plain.specs.Plain.{plain};
 ghost use Rattle.tree_store.specs.Vectors.{IsVector};
 ghost use Rattle.work_run.specs.Work.{IsReady, HasAnswered};
 
 use crate::insert::insert_mine;
 use crate::worker::Worker;
-use root_plain::Roots;
+use root_plain::{PlainTable, Roots};
 use std::thread;
 use std::thread::Threads;
 use tdb_base::Gate;
 use trace_csv::Trace;
 use tree_store::PlainStore;
 
-/// Each worker inserts its lines, in a thread of its own where one can be started.
+// A worker of a plain store inserts its lines.
+fn insert_plainly<G: Gate, const W: u32, const F: u32>(
+    store: &PlainStore<W, F>,
+    trace: &Trace,
+    workers: u64,
+    block: u64,
+    worker: &mut Worker<Roots>,
+    gate: &G,
+)
+    requires lines { length trace.now ≤ 2 ^ 32 }
+    requires fit { All (IsVector store.now.about) trace.now }
+    requires workers { workers ≤ 64 }
+    requires block { (1 ≤ block) × (block ≤ 65536) }
+    requires ready { IsReady plain store.now (length trace.now) workers block worker.old }
+    ensures { HasAnswered plain store.now trace.now workers block worker.old worker.new }
+{
+    let roots = PlainTable::over(store.nodes());
+    insert_mine(&roots, store, trace, workers, block, worker, gate);
+}
+
+/// Each worker inserts its lines into a plain store, in a thread of its own where one can be started.
 pub(crate) fn work_at_once<R: Threads + Sync, G: Gate, const W: u32, const F: u32>(
     rt: &R,
     store: &PlainStore<W, F>,
@@ -23,11 +44,13 @@ pub(crate) fn work_at_once<R: Threads + Sync, G: Gate, const W: u32, const F: u3
     gate: &G,
 )
     requires lines { length trace.now ≤ 2 ^ 32 }
-    requires fit { All (IsVector store.now.nodes.table.about) trace.now }
+    requires fit { All (IsVector store.now.about) trace.now }
     requires workers { workers ≤ 64 }
     requires block { (1 ≤ block) × (block ≤ 65536) }
-    requires ready { All (IsReady store.now.nodes.table.table.shared.table_id store.now.nodes.table.about (length trace.now) workers block) crew.old.items }
-    ensures answered { (j : ℕ) (d : _) → j < length crew.old.items → HasAnswered store.now.nodes.table.table.shared.table_id store.now.nodes.table.about trace.now workers block (slice_index_or crew.old.items j d) (slice_index_or crew.new.items j d) }
+    requires ready { All (IsReady plain store.now (length trace.now) workers block) crew.old.items }
+    ensures answered { (j : ℕ) (d : _) → j < length crew.old.items
+        → HasAnswered plain store.now trace.now workers block (slice_index_or crew.old.items j d)
+            (slice_index_or crew.new.items j d) }
     ensures all { length crew.new.items ≡ length crew.old.items }
 {
     let count = crew.len();
@@ -38,13 +61,14 @@ pub(crate) fn work_at_once<R: Threads + Sync, G: Gate, const W: u32, const F: u3
             count,
             &|_, worker: &mut Worker<Roots>|
                 requires lines { length trace.now ≤ 2 ^ 32 }
-                requires fit { All (IsVector store.now.nodes.table.about) trace.now }
+                requires fit { All (IsVector store.now.about) trace.now }
                 requires workers { workers ≤ 64 }
                 requires block { (1 ≤ block) × (block ≤ 65536) }
-                requires ready { IsReady store.now.nodes.table.table.shared.table_id store.now.nodes.table.about (length trace.now) workers block worker.now }
-                ensures { HasAnswered store.entry.now.nodes.table.table.shared.table_id store.entry.now.nodes.table.about trace.entry.now workers block worker.entry.now worker.exit.now }
+                requires ready { IsReady plain store.now (length trace.now) workers block worker.now }
+                ensures { HasAnswered plain store.entry.now trace.entry.now workers block worker.entry.now
+                    worker.exit.now }
             {
-                insert_mine(store, trace, workers, block, worker, gate);
+                insert_plainly(store, trace, workers, block, worker, gate);
             },
         );
     }

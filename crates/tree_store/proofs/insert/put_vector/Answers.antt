@@ -91,7 +91,7 @@ returns-clause-answered g c =
     let after = subst (λ s. AtRest part s w) c.requires.roots c.put_tree_root.ensures.rest in
     let answer = subst (λ s. RootIsAnswered part s (slots_of s.about n.next_tree.items) c.put_tree_root.result n w) c.requires.roots c.put_tree_root.ensures.answered in
     answered part store (compared c.args.from_last p) v p n w e.rest after built (e.vector ∙ vector) (ap (λ x. x.has_last) e.keeps ∙ ap (λ x. x.has_last) f.tree) (ap (λ x. x.last_tree) e.keeps ∙ ap (λ x. x.last_tree) f.tree)
-    (λ b. root_never_named part g.met.D.RootTable.full_for_good store w v after b) c.put_tree_root.result answer
+    (λ b. root_never_named part g.met.D.RootTable.refusals store w v after b) c.put_tree_root.result answer
 
 pub returns-clause-ticks : goal.returns-clause-ticks
 returns-clause-ticks g c =

@@ -3,6 +3,5 @@ use Rattle.work_run.proofs.insert.insert_line.Goals as goal
 
 pub returns : goal.returns
 returns g c =
-    let t = c.args.store.now.nodes.table in
-    one_inserted t.table.shared.table_id t.about c.args.line.now c.args.pass.now _ _ c.requires.rest (assumption) (assumption)
-    (assumption) (assumption) (assumption) (assumption) (assumption) (assumption) (assumption) (assumption) (assumption) (assumption)
+    let e = c.insert_from_last.ensures in
+    one_inserted g.D.Part.RootPart.part c.args.store.now c.args.line.now c.args.pass.now c.insert_from_last.new.pass c.insert_from_last.result c.requires.rest e.rest e.answered

@@ -11,12 +11,12 @@ use Rattle.work_run.proofs.insert.insert_mine.Goals as goal
 
 pub loop-i-init : goal.loop-i-init
 loop-i-init g c =
-    let t = c.args.store.now.nodes.table in
+    let t = c.args.store.now in
     let worker = c.args.worker.now in
     record {
       done = [];
       whole = ap (λ (n : ℕ). mine n c.args.workers c.args.block worker.number) (sym c.len.ensures.count) ∙ sym c.new-turns.ensures;
-      inserted = subst (λ (x : List Reply). Inserted t.table.shared.table_id t.about [] x worker.pass worker.pass) (sym c.requires.replies) (none_inserted t.table.shared.table_id t.about worker.pass c.requires.rest);
+      inserted = subst (λ (x : List Reply). Inserted g.D.Part.RootPart.part t [] x worker.pass worker.pass) (sym c.requires.replies) (none_inserted g.D.Part.RootPart.part g.met.D.RootTable.refusals t worker.pass c.requires.rest);
       number = refl;
       count = ap (λ (x : List Reply). length x) c.requires.replies;
       room = c.requires.room;
@@ -36,8 +36,8 @@ line-requires g c =
 
 pub insert_line-reply-requires : goal.insert_line-reply-requires
 insert_line-reply-requires g c =
-    let t = c.args.store.now.nodes.table in
-    (omega arith, (omega arith, (c.loop-i.invariant.inserted.rest, all_at (IsVector t.about) c.args.trace.now c.in-Some.i c.line.result.now c.requires.fit c.line.ensures)))
+    let t = c.args.store.now in
+    (omega arith, (c.requires.roots, (c.loop-i.invariant.inserted.rest, all_at (IsVector t.about) c.args.trace.now c.in-Some.i c.line.result.now c.requires.fit c.line.ensures)))
 
 pub overflow_add-i-in-Some : goal.overflow_add-i-in-Some
 overflow_add-i-in-Some g c =
@@ -48,7 +48,7 @@ overflow_add-i-in-Some g c =
 
 pub loop-i-preserved : goal.loop-i-preserved
 loop-i-preserved g c =
-    let t = c.args.store.now.nodes.table in
+    let t = c.args.store.now in
     let trace = c.args.trace.now in
     let inv = c.loop-i.invariant in
     let i = c.in-Some.i in
@@ -59,12 +59,12 @@ loop-i-preserved g c =
     let pass = c.insert_line-reply.new.pass in
     let lines = picked_push trace inv.done i v c.line.ensures in
     let pushed : c.push.new.self.items ≡ replies ++ reply ∷ [] = c.in-Ok.ensures.items in
-    let more = more_inserted t.table.shared.table_id t.about start c.loop-i.worker.pass pass (picked trace inv.done) replies v reply inv.inserted c.insert_line-reply.ensures in
+    let more = more_inserted g.D.Part.RootPart.part g.met.D.RootTable.refusals t start c.loop-i.worker.pass pass (picked trace inv.done) replies v reply inv.inserted c.insert_line-reply.ensures in
     record {
       done = inv.done ++ i ∷ [];
       whole = inv.whole ∙ (ap (λ (x : List ℕ). inv.done ++ x) c.in-Some.ensures.line ∙ sym (append_assoc inv.done (i ∷ []) c.next.new.self));
-      inserted = subst (λ (x : List Reply). Inserted t.table.shared.table_id t.about (picked trace (inv.done ++ i ∷ [])) x start pass) (sym pushed)
-          (subst (λ (x : List Vector). Inserted t.table.shared.table_id t.about x (replies ++ reply ∷ []) start pass) (sym lines) more);
+      inserted = subst (λ (x : List Reply). Inserted g.D.Part.RootPart.part t (picked trace (inv.done ++ i ∷ [])) x start pass) (sym pushed)
+          (subst (λ (x : List Vector). Inserted g.D.Part.RootPart.part t x (replies ++ reply ∷ []) start pass) (sym lines) more);
       number = inv.number;
       count = ap (λ (x : List Reply). length x) pushed ∙ omega (arith, length-append replies (reply ∷ []), inv.count, length-append inv.done (i ∷ []));
       room = omega (arith, inv.room, c.in-Ok.ensures.capacity);

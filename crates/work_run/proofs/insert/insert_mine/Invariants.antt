@@ -7,7 +7,7 @@ abbrev pub invariant-loop-i : goal.invariant-loop-i
 invariant-loop-i g l = record {
   done : List ℕ;
   whole : mine (length l.trace) l.workers l.block l.fn.worker.number ≡ done ++ l.turns;
-  inserted : Inserted l.store.nodes.table.table.shared.table_id l.store.nodes.table.about (picked l.trace done) l.worker.replies.items l.fn.worker.pass l.worker.pass;
+  inserted : Inserted g.D.Part.RootPart.part l.store (picked l.trace done) l.worker.replies.items l.fn.worker.pass l.worker.pass;
   number : l.worker.number ≡ l.fn.worker.number;
   count : length l.worker.replies.items ≡ length done;
   room : length (mine (length l.trace) l.workers l.block l.fn.worker.number) ≤ vec_capacity l.worker.replies;

@@ -1,9 +1,0 @@
-use Rattle.std.specs.Prelude.{length}
-use Rattle.work_run.proofs.Joins.{Dismissing}
-use Rattle.work_run.proofs.crew.dismiss.Given as goal
-
-abbrev pub invariant-loop-worker : goal.invariant-loop-worker
-invariant-loop-worker g l = Dismissing g.R.RootPart.roots g.R.RootPart.house g.R.RootPart.told l.store.nodes.table.table.shared.table_id l.store.nodes.table.about g.R.RootPart.glue l.fn.pass l.pass l.fn.crew.items l.left.items
-
-abbrev pub decreases-loop-worker : goal.decreases-loop-worker
-decreases-loop-worker g l = length l.left.items
