@@ -2,7 +2,6 @@
 use Rattle.std.proofs.Common.{◌≡◌, ℕ, suc, ◌+◌, ◌*◌, ◌-◌, ◌<◌, ◌≤◌, List, [], ◌∷◌, length, Bool, true, false, Option, Some, None, refl, sym, ap, ◌∙◌, subst, ⊎_elim, arith}
 use Rattle.std.specs.Prelude.{slice_get, count_by}
 use Rattle.std.specs.List.{list_any, range_with_len}
-use Rattle.atomic_table.specs.Seated.{TableId}
 use Rattle.tree_shape.specs.Tree.{Has}
 use Rattle.tdb_base.specs.Agrees.{Agrees}
 use Rattle.tdb_base.specs.History.{Vector, History}
@@ -19,13 +18,13 @@ use Rattle.tree_store.proofs.Census.{names_all}
 use Rattle.pair_rule.specs.declared.view.View.{View}
 use Rattle.pair_rule.specs.declared.sizes.About.{About}
 use Rattle.pair_rule.specs.declared.pass.PassOf.{PassOf}
-use Rattle.pair_rule.specs.Rest.{Housed, Whole, names_of_callers, view}
+use Rattle.pair_rule.specs.Part.{Store}
+use Rattle.pair_rule.specs.Rest.{AtRest, Housed, Whole, names_of_callers, view}
 use Rattle.pair_rule.specs.View.{newcomer}
 use Rattle.root_plain.specs.declared.root.Roots.{Roots}
-use Rattle.root_plain.specs.Plain.{no_roots}
-use Rattle.root_plain.specs.Plays.{Rests, house_of}
+use Rattle.root_plain.specs.Plain.{nothing_known, plain}
 use Rattle.root_plain.proofs.PassLaws.{has_all}
-use Rattle.work_run.specs.Full.{Filled, IsOfOne}
+use Rattle.work_run.specs.Full.{AreOfVectors, IsOfOne}
 use Rattle.work_run.specs.Ran.{OneHistory, FullAreBarred, NewNodesAreOfLines}
 use Rattle.trace_csv.specs.declared.report.Stats.{Stats}
 use Rattle.command_line.specs.declared.outcome.Choice.{Choice}
@@ -34,7 +33,7 @@ use Rattle.treedb.specs.Offered.{flag_count}
 use Rattle.treedb.specs.Stored.{IsAboutChoice, Counts, AreTold, NodesAreNamed, InStore}
 
 -- the same nodes and roots house a history whose callers have other numbers
-housed_renamed : (about : About) (nodes roots : List (ℕ × ℕ)) (f : ℕ → ℕ) (h : History) → Housed about (house_of about) nodes roots h → Housed about (house_of about) nodes roots (renamed f h)
+housed_renamed : (about : About) (nodes roots : List (ℕ × ℕ)) (f : ℕ → ℕ) (h : History) → Housed about (plain.house about) nodes roots h → Housed about (plain.house about) nodes roots (renamed f h)
 housed_renamed about nodes roots f h s = record {
   are_nodes = s.are_nodes;
   fills_paths = s.fills_paths;
@@ -68,11 +67,11 @@ named_by (r.Seen id) e = (id, refl)
 named_by r.FullNodes e = cc e
 named_by r.FullRoots e = cc e
 
-module _ (c : Choice) (trace : List Vector) (replies : List Reply) (table : TableId) (about : About) (first last : PassOf Roots) (some : 0 < c.workers) (about_is : IsAboutChoice c trace about)
-    (flags : about.flags ≡ flag_count c.profile) (new : view first ≡ newcomer no_roots about) (begins : Whole (view first)) (rests : Rests table about last)
-    (one : OneHistory about trace replies c.workers c.block (view first) (view last)) (whole : Whole (view first) → Whole (view last))
-    (nodes : NewNodesAreOfLines about trace (view first) (view last)) (full : FullAreBarred about trace replies (view last))
-    (few : length (view last).made ≤ (about.slots - 2) * length trace) where
+module _ (c : Choice) (trace : List Vector) (replies : List Reply) (store : Store) (first last : PassOf Roots) (some : 0 < c.workers) (about_is : IsAboutChoice c trace store.about)
+    (flags : store.about.flags ≡ flag_count c.profile) (new : view first ≡ newcomer nothing_known store.about) (begins : Whole (view first)) (rests : AtRest plain store last)
+    (one : OneHistory store.about trace replies c.workers c.block (view first) (view last)) (whole : Whole (view first) → Whole (view last))
+    (nodes : NewNodesAreOfLines store.about trace (view first) (view last)) (full : FullAreBarred plain store.about trace replies (view last))
+    (few : length (view last).made ≤ (store.about.slots - 2) * length trace) where
   callers : List ℕ
   callers = one.0
 
@@ -84,28 +83,28 @@ module _ (c : Choice) (trace : List Vector) (replies : List Reply) (table : Tabl
 
   pub own_agrees : Agrees (flag_count c.profile) trace replies c.workers c.block [] (view last).seen one.0
   own_agrees = subst (λ (n : ℕ). Agrees n trace replies c.workers c.block [] (view last).seen one.0) flags
-      (subst (λ (h : History). Agrees about.flags trace replies c.workers c.block h (view last).seen one.0) none_seen (one.1.alone begins))
+      (subst (λ (h : History). Agrees store.about.flags trace replies c.workers c.block h (view last).seen one.0) none_seen (one.1.alone begins))
 
   pub agrees_run : Agrees (flag_count c.profile) trace replies c.workers c.block [] history (range_with_len 0 c.workers)
   agrees_run = agrees_renamed own_agrees
 
-  filled_run : Filled about (view last).known trace
+  filled_run : AreOfVectors store.about (view last).known trace
   filled_run index pair h = ⊎_elim
       (λ (old : (other : ℕ) × Has (index, other) (view first).known). absurd (subst (λ (v : View Roots). Has (index, old.0) v.known) new old.1))
-      (λ (of : IsOfOne about (view last).known trace index). of)
+      (λ (of : IsOfOne store.about (view last).known trace index). of)
       (nodes begins index pair h)
 
   -- each name was given by a call of a line that is new
   names_are : names_of_callers (view last).numbers (view last).seen ≡ count_by is_new replies
   names_are =
-      let all = has_all table about last rests (whole begins) in
+      let all = has_all store last rests (whole begins) in
       names_all (view last).numbers (view last).seen all.callers
       ∙ (count-named (flag_count c.profile) (view last).seen own_agrees.among.legal
       ∙ sym (counts-names (flag_count c.profile) trace replies c.workers c.block (view last).seen one.0 own_agrees some))
 
-  counts_run : (s : Stats) → CountsOf about (view last) s → Counts about (length trace) (view last).known replies s
+  counts_run : (s : Stats) → CountsOf store.about (view last) s → Counts store.about (length trace) (view last).known replies s
   counts_run s k =
-      let all = has_all table about last rests (whole begins) in
+      let all = has_all store last rests (whole begins) in
       record {
         indexes = (view last).made;
         once = rests.seat.sound.made_once;
@@ -113,10 +112,10 @@ module _ (c : Choice) (trace : List Vector) (replies : List Reply) (table : Tabl
         nodes_are = k.nodes;
         few = omega (arith, k.nodes, few);
         stored = k.stored ∙ (λ i. 8 * sym k.nodes i + 8 * names_are i);
-        raw = k.raw ∙ ap (λ (n : ℕ). 4 * about.slots * n) names_are;
+        raw = k.raw ∙ ap (λ (n : ℕ). 4 * store.about.slots * n) names_are;
       }
 
-  named_run : list_any is_full replies ≡ false → NodesAreNamed about (view last).known history
+  named_run : list_any is_full replies ≡ false → NodesAreNamed store.about (view last).known history
   named_run none index pair h =
       let of = filled_run index pair h in
       let at = has_some_place of.0 trace of.1 in
@@ -124,16 +123,16 @@ module _ (c : Choice) (trace : List Vector) (replies : List Reply) (table : Tabl
       let id = named_by reply.0 (none-full replies at.0 reply.0 none reply.1) in
       (of.0, id.0, line-named (flag_count c.profile) trace replies c.workers c.block [] history (range_with_len 0 c.workers) agrees_run.among some at.0 of.0 reply.0 id.0 at.1 reply.1 id.1, of.2)
 
-  pub in_store_run : (stats : Option Stats) → AreTold c.stats stats (CountsOf about (view last)) → InStore c trace replies history stats
+  pub in_store_run : (stats : Option Stats) → AreTold c.stats stats (CountsOf store.about (view last)) → InStore c trace replies history stats
   in_store_run stats told = record {
-    about = about;
+    about = store.about;
     nodes = (view last).known;
     roots = (view last).root.roots;
     about_is = about_is;
-    housed = housed_renamed about (view last).known (view last).root.roots (place_of one.0) (view last).seen
-        (subst (λ (a : About). Housed a (house_of a) (view last).known (view last).root.roots (view last).seen) (let e : about ≡ about = refl in e) (has_all table about last rests (whole begins)).housed);
+    housed = housed_renamed store.about (view last).known (view last).root.roots (place_of one.0) (view last).seen
+        (subst (λ (a : About). Housed a (plain.house a) (view last).known (view last).root.roots (view last).seen) (let e : store.about ≡ store.about = refl in e) (has_all store last rests (whole begins)).housed);
     filled = filled_run;
     barred = full;
     named = named_run;
-    counts = told_so c.stats stats (CountsOf about (view last)) (Counts about (length trace) (view last).known replies) counts_run told;
+    counts = told_so c.stats stats (CountsOf store.about (view last)) (Counts store.about (length trace) (view last).known replies) counts_run told;
   }

@@ -9,10 +9,9 @@ use Rattle.pair_rule.specs.Laws.{IsAbout}
 use Rattle.pair_rule.specs.Numbers.{NoRepeats}
 use Rattle.pair_rule.specs.Rest.{Housed}
 use Rattle.pair_rule.specs.declared.sizes.About.{About}
-use Rattle.root_plain.specs.Plain.{sized, count}
-use Rattle.root_plain.specs.Plays.{house_of}
+use Rattle.root_plain.specs.Plain.{plain}
 use Rattle.tree_store.specs.Vectors.{IsInTree}
-use Rattle.work_run.specs.Full.{Barred, Filled}
+use Rattle.work_run.specs.Full.{Barred, AreOfVectors}
 use Rattle.trace_csv.specs.declared.report.Stats.{Stats}
 use Rattle.command_line.specs.Sizes.{AreTableSizes}
 use Rattle.command_line.specs.declared.outcome.Choice.{Choice}
@@ -21,7 +20,9 @@ use Rattle.treedb.specs.Offered.{flag_count}
 
 -- what the tables of a choice are about, for these lines: the profile, the lines' slots, and the sizes that the words give or the least that suffice
 pub record IsAboutChoice (c : Choice) (trace : List Vector) (about : About) : Type 0 where
-  pub is_about : IsAbout c.profile (flag_count c.profile) sized count about
+  pub is_about : IsAbout plain.sized plain.count about
+  pub width : about.width ≡ c.profile
+  pub flags : about.flags ≡ flag_count c.profile
   pub slots : All (λ v. length v ≡ about.slots) trace
   pub sizes : TableSizes
   pub are_sizes : AreTableSizes c about.slots (length trace) sizes
@@ -57,8 +58,8 @@ pub record InStore (c : Choice) (trace : List Vector) (replies : List Reply) (h 
   pub nodes : List (ℕ × ℕ)
   pub roots : List (ℕ × ℕ)
   pub about_is : IsAboutChoice c trace about
-  pub housed : Housed about (house_of about) nodes roots h
-  pub filled : Filled about nodes trace
-  pub barred : (i : ℕ) (v : Vector) (reply : Reply) → slice_get trace i ≡ Some v → slice_get replies i ≡ Some reply → Barred about nodes roots v reply
+  pub housed : Housed about (plain.house about) nodes roots h
+  pub filled : AreOfVectors about nodes trace
+  pub barred : (i : ℕ) (v : Vector) (reply : Reply) → slice_get trace i ≡ Some v → slice_get replies i ≡ Some reply → Barred plain about nodes roots v reply
   pub named : list_any is_full replies ≡ false → NodesAreNamed about nodes h
   pub counts : AreTold c.stats stats (Counts about (length trace) nodes replies)

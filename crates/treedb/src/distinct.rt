@@ -3,8 +3,8 @@ ghost use Rattle.std.specs.Prelude.{◌≡◌, ◌+◌, ◌*◌, ◌++◌, ◌�
 ghost use Rattle.std.specs.List.Sorted.{IsSortedByKey};
 ghost use Rattle.tdb_base.specs.History.{name_of};
 ghost use Rattle.tdb_base.specs.Legal.{Extends};
-ghost use Rattle.pair_rule.specs.Rest.{view};
-ghost use Rattle.root_plain.specs.Plays.{Rests};
+ghost use Rattle.pair_rule.specs.Rest.{AtRest, view};
+ghost use Rattle.root_plain.specs.Plain.{plain};
 ghost use Rattle.trace_csv.specs.Sorted.{list_order};
 ghost use Rattle.trace_csv.specs.Vectors.{vector_at as vector_of_number};
 ghost use Rattle.treedb.specs.ReadBack.{Adds, AwaitsLines, HasRoom, IfPrinted, IsCounted, IsReadBy, KeepsRoom, ReadsInto, new_id, new_ids, vectors};
@@ -46,12 +46,12 @@ fn read_at<const W: u32, const F: u32>(
     at: usize,
     flat: &mut [u32],
 )
-    requires rest { Rests store.now.nodes.table.table.shared.table_id store.now.nodes.table.about pass.old }
+    requires rest { AtRest plain store.now pass.old }
     requires named { (vector : List ℕ) × (name_of (view pass.old).seen vector ≡ Some id) }
-    requires slots { slots ≡ store.now.nodes.table.about.slots }
+    requires slots { slots ≡ store.now.about.slots }
     requires there { at + slots ≤ length flat.old }
-    ensures rest { Rests store.now.nodes.table.table.shared.table_id store.now.nodes.table.about pass.new }
-    ensures no_call { Advanced [] (view pass.old) (view pass.new) }
+    ensures rest { AtRest plain store.now pass.new }
+    ensures no_call { Advanced plain [] (view pass.old) (view pass.new) }
     ensures written { (vector : List ℕ) × (length vector ≡ slots) × (name_of (view pass.old).seen vector ≡ Some id) × (flat.new ≡ take at flat.old ++ (vector ++ drop (at + slots) flat.old)) }
 {
     let (_, rest) = flat.split_at_mut(at);
@@ -80,13 +80,13 @@ impl ReadBack {
         pass: &mut PlainPass<W, F>,
         id: u64,
     )
-        requires rest { Rests store.now.nodes.table.table.shared.table_id store.now.nodes.table.about pass.old }
+        requires rest { AtRest plain store.now pass.old }
         requires named { (vector : List ℕ) × (name_of (view pass.old).seen vector ≡ Some id) }
-        requires slots { self.old.slots ≡ store.now.nodes.table.about.slots }
+        requires slots { self.old.slots ≡ store.now.about.slots }
         requires room { HasRoom 1 self.old }
         requires counted { IsCounted self.old }
-        ensures rest { Rests store.now.nodes.table.table.shared.table_id store.now.nodes.table.about pass.new }
-        ensures no_call { Advanced [] (view pass.old) (view pass.new) }
+        ensures rest { AtRest plain store.now pass.new }
+        ensures no_call { Advanced plain [] (view pass.old) (view pass.new) }
         ensures room { KeepsRoom self.old self.new }
         ensures counted { IsCounted self.new }
         ensures one_more { length self.new.order.items ≡ length self.old.order.items + 1 }
@@ -107,12 +107,12 @@ impl ReadBack {
         pass: &mut PlainPass<W, F>,
         reply: Reply,
     )
-        requires rest { Rests store.now.nodes.table.table.shared.table_id store.now.nodes.table.about pass.old }
+        requires rest { AtRest plain store.now pass.old }
         requires named { IfSome (new_id reply) (λ id. (vector : List ℕ) × (name_of (view pass.old).seen vector ≡ Some id)) }
-        requires slots { self.old.slots ≡ store.now.nodes.table.about.slots }
+        requires slots { self.old.slots ≡ store.now.about.slots }
         requires room { HasRoom 1 self.old }
         requires counted { IsCounted self.old }
-        ensures rest { Rests store.now.nodes.table.table.shared.table_id store.now.nodes.table.about pass.new }
+        ensures rest { AtRest plain store.now pass.new }
         ensures later { Extends (view pass.old).seen (view pass.new).seen }
         ensures room { KeepsRoom self.old self.new }
         ensures counted { IsCounted self.new }
@@ -132,9 +132,9 @@ impl ReadBack {
         pass: &mut PlainPass<W, F>,
         replies: &[Reply],
     )
-        requires rest { Rests store.now.nodes.table.table.shared.table_id store.now.nodes.table.about pass.old }
+        requires rest { AtRest plain store.now pass.old }
         requires named { All (λ reply. IfSome (new_id reply) (λ id. (vector : List ℕ) × (name_of (view pass.old).seen vector ≡ Some id))) replies.now }
-        requires slots { self.old.slots ≡ store.now.nodes.table.about.slots }
+        requires slots { self.old.slots ≡ store.now.about.slots }
         requires room { HasRoom (length replies.now) self.old }
         requires empty { self.old.order.items ≡ [] }
         ensures slots { self.new.slots ≡ self.old.slots }
@@ -170,9 +170,9 @@ impl ReadBack {
         pass: &mut PlainPass<W, F>,
         replies: &[Reply],
     ) -> ReadBack
-        requires rest { Rests store.now.nodes.table.table.shared.table_id store.now.nodes.table.about pass.old }
+        requires rest { AtRest plain store.now pass.old }
         requires named { All (λ reply. IfSome (new_id reply) (λ id. (vector : List ℕ) × (name_of (view pass.old).seen vector ≡ Some id))) replies.now }
-        requires room { AwaitsLines store.now.nodes.table.about.slots (length replies.now) self }
+        requires room { AwaitsLines store.now.about.slots (length replies.now) self }
         ensures { IsReadBy (view pass.old).seen (new_ids replies.now) result }
     {
         self.add_all(store, pass, replies);
@@ -207,9 +207,9 @@ pub fn read_back<const W: u32, const F: u32>(
     replies: &[Reply],
     room: Option<ReadBack>,
 ) -> Option<ReadBack>
-    requires rest { Rests store.now.nodes.table.table.shared.table_id store.now.nodes.table.about pass.old }
+    requires rest { AtRest plain store.now pass.old }
     requires named { All (λ reply. IfSome (new_id reply) (λ id. (vector : List ℕ) × (name_of (view pass.old).seen vector ≡ Some id))) replies.now }
-    requires room { IfSome room (AwaitsLines store.now.nodes.table.about.slots (length replies.now)) }
+    requires room { IfSome room (AwaitsLines store.now.about.slots (length replies.now)) }
     ensures { ReadsInto (view pass.old).seen (new_ids replies.now) room result }
 {
     match room {

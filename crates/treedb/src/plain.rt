@@ -1,11 +1,10 @@
 //! Plain mode: the lines of a trace are inserted into a store whose roots stand in a plain table.
 ghost use Rattle.std.specs.Prelude.{◌≡◌, ◌≤◌, ◌<◌, ◌^◌, All, IfOk, OnErr, false, length};
 ghost use Rattle.packed_word.specs.Word.{IsLayout};
-ghost use Rattle.pair_rule.specs.Laws.{IsAbout};
-ghost use Rattle.pair_rule.specs.Rest.{Whole, view};
+ghost use Rattle.pair_rule.specs.Part.{IsTable};
+ghost use Rattle.pair_rule.specs.Rest.{AtRest, Whole, view};
 ghost use Rattle.pair_rule.specs.View.{newcomer};
-ghost use Rattle.root_plain.specs.Plain.{no_roots, sized, count};
-ghost use Rattle.root_plain.specs.Plays.{Rests};
+ghost use Rattle.root_plain.specs.Plain.{nothing_known, plain};
 ghost use Rattle.tree_store.specs.Ranges.{NodesFit, RootsFit, ProbeFits};
 ghost use Rattle.tree_store.specs.Vectors.{IsVector};
 ghost use Rattle.work_run.specs.Crew.{Unused};
@@ -64,10 +63,12 @@ fn make_store<const W: u32, const F: u32>(
     requires nodes { NodesFit W sizes.now }
     requires roots { RootsFit sizes.now }
     requires probe { ProbeFits sizes.now }
-    ensures about { IfOk result (λ made. IsAbout W F sized count made.0.nodes.table.about × (made.0.nodes.table.about.sizes ≡ sizes.now) × (made.0.nodes.table.about.slots ≡ slots)) }
-    ensures view { IfOk result (λ made. view made.1 ≡ newcomer no_roots made.0.nodes.table.about) }
+    ensures store { IfOk result (λ made. IsTable W F plain made.0) }
+    ensures sizes { IfOk result (λ made. made.0.about.sizes ≡ sizes.now) }
+    ensures slots { IfOk result (λ made. made.0.about.slots ≡ slots) }
+    ensures view { IfOk result (λ made. view made.1 ≡ newcomer nothing_known made.0.about) }
     ensures whole { IfOk result (λ made. Whole (view made.1)) }
-    ensures rest { IfOk result (λ made. Rests made.0.nodes.table.table.shared.table_id made.0.nodes.table.about made.1) }
+    ensures rest { IfOk result (λ made. AtRest plain made.0 made.1) }
 {
     let Ok(shape) = Shape::new(slots) else {
         unreachable!()
@@ -85,8 +86,8 @@ fn stats_of<const W: u32, const F: u32>(
     pass: &PlainPass<W, F>,
     asked: bool,
 ) -> Option<Stats>
-    requires { Rests store.now.nodes.table.table.shared.table_id store.now.nodes.table.about pass.now }
-    ensures { AreTold asked result (CountsOf store.now.nodes.table.about (view pass.now)) }
+    requires { AtRest plain store.now pass.now }
+    ensures { AreTold asked result (CountsOf store.now.about (view pass.now)) }
 {
     if !asked {
         return None;
@@ -110,13 +111,13 @@ fn insert_lines<R: Threads + Sync, G: Gate, const W: u32, const F: u32>(
     gate: &G,
 ) -> Result<Answered, NoMemory>
     requires valid { IsValid choice.now }
-    requires about { IsAboutChoice choice.now trace.now store.now.nodes.table.about }
-    requires view { view pass.old ≡ newcomer no_roots store.now.nodes.table.about }
+    requires about { IsAboutChoice choice.now trace.now store.now.about }
+    requires view { view pass.old ≡ newcomer nothing_known store.now.about }
     requires whole { Whole (view pass.old) }
-    requires rest { Rests store.now.nodes.table.table.shared.table_id store.now.nodes.table.about pass.old }
+    requires rest { AtRest plain store.now pass.old }
     requires lines { length trace.now ≤ 2 ^ 32 }
-    requires fit { All (IsVector store.now.nodes.table.about) trace.now }
-    requires room { IfPrinted choice.now.job room (AwaitsLines store.now.nodes.table.about.slots (length trace.now)) }
+    requires fit { All (IsVector store.now.about) trace.now }
+    requires room { IfPrinted choice.now.job room (AwaitsLines store.now.about.slots (length trace.now)) }
     ensures answered { IfOk result (IsAnswered choice.now trace.now) }
     ensures refused { OnErr result (Unused pass.old pass.new) }
 {

@@ -23,23 +23,23 @@ insert_lines-requires g c =
     let choice = c.args.choice.now in
     let trace = c.args.trace.now in
     let made = c.in_ok-store.ensures in
-    let about = c.in_ok-store.store.nodes.table.about in
+    let about = c.in_ok-store.store.about in
     let sizes = c.store_sizes-sizes.ensures.sizes in
     let width = c.requires.profile.0 in
     let flags = c.requires.profile.1 in
-    let is = made.about in
-    let is_about : IsAbout choice.profile (flag_count choice.profile) sized count about =
-    subst (λ (w : ℕ). IsAbout w (flag_count w) sized count about) (sym width) (subst (λ (f : ℕ). IsAbout g.row.W f sized count about) flags is.0) in
+    let size : (part : Sizes → ℕ) → part about.sizes ≡ part c.store_sizes-sizes.result = λ part. ap part made.sizes in
     let about_is : IsAboutChoice choice trace about = record {
-      is_about = is_about;
-      slots = subst (λ (n : ℕ). All (λ (v : Vector). length v ≡ n) trace) (sym is.2) c.slots-slots.ensures.each;
+      is_about = made.store.is_about;
+      width = made.store.width_is ∙ sym width;
+      flags = made.store.flags_are ∙ flags ∙ ap flag_count (sym width);
+      slots = subst (λ (n : ℕ). All (λ (v : Vector). length v ≡ n) trace) (sym made.slots) c.slots-slots.ensures.each;
       sizes = sizes.sizes;
-      are_sizes = subst (λ (n : ℕ). AreTableSizes choice n (length trace) sizes.sizes) (sym is.2) (subst (λ (n : ℕ). AreTableSizes choice c.slots-slots.result n sizes.sizes) c.len.ensures.count sizes.are_sizes);
-      nodes = ap (λ (s : Sizes). s.nodes) is.1 ∙ sizes.nodes;
-      roots = ap (λ (s : Sizes). s.roots) is.1 ∙ sizes.roots;
-      region = ap (λ (s : Sizes). s.region) is.1 ∙ sizes.region;
-      probe = ap (λ (s : Sizes). s.probe) is.1 ∙ sizes.probe;
+      are_sizes = subst (λ (n : ℕ). AreTableSizes choice n (length trace) sizes.sizes) (sym made.slots) (subst (λ (n : ℕ). AreTableSizes choice c.slots-slots.result n sizes.sizes) c.len.ensures.count sizes.are_sizes);
+      nodes = size (λ (s : Sizes). s.nodes) ∙ sizes.nodes;
+      roots = size (λ (s : Sizes). s.roots) ∙ sizes.roots;
+      region = size (λ (s : Sizes). s.region) ∙ sizes.region;
+      probe = size (λ (s : Sizes). s.probe) ∙ sizes.probe;
     } in
-    let room = subst (λ (n : ℕ). IfPrinted choice.job c.in_ok-room.room (AwaitsLines n (length trace))) (sym is.2)
+    let room = subst (λ (n : ℕ). IfPrinted choice.job c.in_ok-room.room (AwaitsLines n (length trace))) (sym made.slots)
     (subst (λ (n : ℕ). IfPrinted choice.job c.in_ok-room.room (AwaitsLines c.slots-slots.result n)) c.len-2.ensures.count c.in_ok-room.ensures) in
     (search rules, (search rules, (search rules, (search rules, (c.requires.valid, (about_is, (made.view, (made.whole, (made.rest, (c.requires.lines, (search rules, room)))))))))))

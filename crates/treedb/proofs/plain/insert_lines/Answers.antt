@@ -22,10 +22,11 @@ pub read_back-vectors-requires : goal.read_back-vectors-requires
 read_back-vectors-requires g c =
     let choice = c.args.choice.now in
     let trace = c.args.trace.now in
-    let about = c.args.store.now.nodes.table.about in
+    let about = c.args.store.now.about in
     let first = c.args.pass.now in
     let last = c.run_lines.new.pass in
-    let ran = c.in_ok-replies.ensures in
+    let rested = c.in_ok-replies.ensures.rest in
+    let ran = c.in_ok-replies.ensures.ran in
     let replies = c.in_ok-replies.replies.items in
     let value = c.deref.ensures.value in
     let among = ran.one_history.1.among in
@@ -34,32 +35,33 @@ read_back-vectors-requires g c =
     let lines : length trace ≡ length c.deref.result.now = sym among.one_each ∙ ap (λ (x : List Reply). length x) (sym value) in
     let given = if-some choice.job c.args.room (AwaitsLines about.slots (length trace)) c.requires.room in
     let room = subst (λ (n : ℕ). IfSome c.args.room (AwaitsLines about.slots n)) lines given in
-    (search rules, (search rules, (ran.rest, (named, room))))
+    (search rules, (search rules, (rested, (named, room))))
 
 pub returns-clause-answered : goal.returns-clause-answered
 returns-clause-answered g c =
     let choice = c.args.choice.now in
     let trace = c.args.trace.now in
-    let table = c.args.store.now.nodes.table.table.shared.table_id in
-    let about = c.args.store.now.nodes.table.about in
+    let store = c.args.store.now in
+    let about = c.args.store.now.about in
     let first = c.args.pass.now in
     let last = c.run_lines.new.pass in
-    let ran = c.in_ok-replies.ensures in
+    let rested = c.in_ok-replies.ensures.rest in
+    let ran = c.in_ok-replies.ensures.ran in
     let replies = c.in_ok-replies.replies.items in
     let some = c.requires.valid.in_range.workers.0 in
     let about_is = c.requires.about in
-    let flags_are = about_is.is_about.flags_are in
-    let probed = ran.rest.seat.sound.probed in
+    let flags_are = about_is.flags in
+    let probed = rested.seat.sound.probed in
     let none : (view first).probes ≡ 0 = ap (λ (v : View Roots). v.probes) c.requires.view in
     let most = few_puts about trace replies choice.workers choice.block in
     let few : length (view last).made ≤ (about.slots - 2) * length trace = omega (arith, probed, ran.probes, none, most) in
-    let own = own_agrees choice trace replies table about first last some about_is flags_are c.requires.view c.requires.whole ran.rest ran.one_history ran.whole ran.nodes ran.full few in
+    let own = own_agrees choice trace replies store first last some about_is flags_are c.requires.view c.requires.whole rested ran.one_history ran.whole ran.nodes ran.full few in
     let into = subst (λ (x : List Reply). ReadsInto (view last).seen (new_ids x) c.args.room c.read_back-vectors.result) c.deref.ensures.value c.read_back-vectors.ensures in
     let read = read-into choice.job c.args.room c.read_back-vectors.result (AwaitsLines about.slots (length trace)) (view last).seen (new_ids replies) c.requires.room into in
     record {
-      history = history choice trace replies table about first last some about_is flags_are c.requires.view c.requires.whole ran.rest ran.one_history ran.whole ran.nodes ran.full few;
-      agrees = agrees_run choice trace replies table about first last some about_is flags_are c.requires.view c.requires.whole ran.rest ran.one_history ran.whole ran.nodes ran.full few;
-      in_store = in_store_run choice trace replies table about first last some about_is flags_are c.requires.view c.requires.whole ran.rest ran.one_history ran.whole ran.nodes ran.full few c.stats_of-stats.result c.stats_of-stats.ensures;
+      history = history choice trace replies store first last some about_is flags_are c.requires.view c.requires.whole rested ran.one_history ran.whole ran.nodes ran.full few;
+      agrees = agrees_run choice trace replies store first last some about_is flags_are c.requires.view c.requires.whole rested ran.one_history ran.whole ran.nodes ran.full few;
+      in_store = in_store_run choice trace replies store first last some about_is flags_are c.requires.view c.requires.whole rested ran.one_history ran.whole ran.nodes ran.full few c.stats_of-stats.result c.stats_of-stats.ensures;
       vectors = if-printed choice.job c.read_back-vectors.result (IsReadBy (view last).seen (new_ids replies)) (IsReadBack (renamed (place_of ran.one_history.0) (view last).seen))
           (λ back by. read-renamed (place_of ran.one_history.0) (view last).seen back
           (read-back (flag_count choice.profile) trace replies choice.workers choice.block (view last).seen ran.one_history.0 own some back by)) read;

@@ -2,13 +2,14 @@ use Rattle.std.specs.Prelude.{◌≡◌, ◌-◌, Some, length, map, take}
 use Rattle.tdb_base.specs.History.{name_of}
 use Rattle.tdb_base.specs.Legal.{Extends}
 use Rattle.pair_rule.specs.Rest.{view}
-use Rattle.root_plain.specs.Plays.{Rests}
+use Rattle.pair_rule.specs.Rest.{AtRest}
+use Rattle.root_plain.specs.Plain.{plain}
 use Rattle.treedb.specs.ReadBack.{HasRoom, IsCounted, new_ids, vectors}
 use Rattle.treedb.proofs.distinct.ReadBack.add_all.Given as goal
 
 abbrev pub invariant-loop-reply : goal.invariant-loop-reply
 invariant-loop-reply g l = record {
-  rest : Rests l.store.nodes.table.table.shared.table_id l.store.nodes.table.about l.pass;
+  rest : AtRest plain l.store l.pass;
   later : Extends (view l.fn.pass).seen (view l.pass).seen;
   slots : l.self.slots ≡ l.fn.self.slots;
   room : HasRoom (length l.replies - l.reply-index) l.self;
