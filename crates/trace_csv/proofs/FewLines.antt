@@ -1,8 +1,8 @@
 -- A trace has no more lines than its text has bytes, and a drawn one has as many as were asked for.
-use Rattle.std.proofs.Common.{◌≡◌, ◌≤◌, ◌<◌, ◌+◌, ◌-◌, ℕ, zero, suc, List, [], ◌∷◌, length, Option, Some, None, Bool, true, false, refl, sym, ap, ◌∙◌, arith}
-use Rattle.std.specs.Prelude.{◌==◌, ◌&&◌, Result, Ok, Err, nat_le, if◌then◌else◌, replicate}
+use Rattle.std.proofs.Common.{◌≡◌, ◌≤◌, ◌+◌, ◌-◌, ℕ, zero, suc, List, [], ◌∷◌, length, Option, Some, None, Bool, true, false, refl, sym, ap, ◌∙◌, arith}
+use Rattle.std.specs.Prelude.{◌&&◌, Result, Ok, Err, nat_le, if◌then◌else◌}
 use Rattle.csv.specs.Machine.{Read, next_record}
-use Rattle.csv.specs.Reading.{default_config, records, records_from, records_next, strip_bom}
+use Rattle.csv.specs.Reading.{default_config, records_from, records_next, strip_bom}
 use Rattle.csv.specs.declared.parser.State.{State}
 use Rattle.csv.specs.declared.parser.State.TheVariants as st
 use Rattle.rand_pcg.specs.Lcg.{Lcg}
@@ -48,7 +48,7 @@ few_rows form (first ∷ rest) lines e = by (nat_le 2 (length first) && nat_le (
     by true e = as_many (line_of form (length first)) 1 (first ∷ rest) lines e
     by false e = cc e
 
-few_stripped : (bytes : List ℕ) → length (strip_bom bytes) ≤ length bytes
+pub few_stripped : (bytes : List ℕ) → length (strip_bom bytes) ≤ length bytes
 unfolding strip_bom
 few_stripped [] = omega arith
 few_stripped (a ∷ []) = omega arith
@@ -59,11 +59,16 @@ few_stripped (a ∷ b ∷ c ∷ rest) = by _
     by true = omega arith
     by false = omega arith
 
+-- a text has no more records than bytes
+pub few_rows_of : (bytes : List ℕ) → length (csv_rows bytes) ≤ length bytes
+few_rows_of bytes =
+    let few = few_records (length (strip_bom bytes) + 1) st.StartRecord (strip_bom bytes) tt in
+    omega (arith, few, few_stripped bytes)
+
 pub few_lines : (form : Form) (bytes : List ℕ) (lines : List (List ℕ)) → trace_of form bytes ≡ Ok lines → length lines ≤ length bytes
 few_lines form bytes lines e =
     let rows = few_rows form (csv_rows bytes) lines e in
-    let few = few_records (length (strip_bom bytes) + 1) st.StartRecord (strip_bom bytes) tt in
-    omega (arith, rows, few, few_stripped bytes)
+    omega (arith, rows, few_rows_of bytes)
 
 -- a drawn trace
 drawn_more : (slots values count : ℕ) (random : Lcg) (line : List ℕ) → length (lines_after slots values count random line) ≡ count

@@ -1,6 +1,6 @@
 -- The number that a field writes, read from its front.
 use Rattle.std.proofs.Common.{◌≡◌, ◌≤◌, ◌<◌, ◌+◌, ◌*◌, ◌-◌, ◌^◌, ℕ, List, length, take, drop, get_or, Bool, true, false, Some, None, refl, sym, ap, arith, ◌∙◌, add-one, length-drop, ⊎_elim}
-use Rattle.std.proofs.lemmas.List.{get_or-drop, get_or-reverse, get_or-take, length-take}
+use Rattle.std.proofs.lemmas.List.{get_or-drop, get_or-reverse, get_or-take, length-take, length-take-le}
 use Rattle.std.proofs.lemmas.List.Folds.{list_all_at}
 use Rattle.std.proofs.lemmas.List.Sums.{list_all-from_AllPass, prefix_len-le-length, prefix_len_passes, prefix_len_stops, suffix_len_is}
 use Rattle.std.proofs.lemmas.Bool.{cases_lt, le-leb, leb-true, lt-leb, ne_eqb}
@@ -51,15 +51,20 @@ get_or-before t k h =
     let within : k < length t - suffix_len is_space t = omega (arith, length-take (length t - suffix_len is_space t) t) in
     get_or-take _ _ k 0 within
 
-both-left : (a b : Bool) → (a && b) ≡ true → a ≡ true
+pub both-left : (a b : Bool) → (a && b) ≡ true → a ≡ true
 both-left true b h = refl
 both-left false b h = h
 
--- a digit is no space
+pub both-right : (a b : Bool) → (a && b) ≡ true → b ≡ true
+both-right true b h = h
+both-right false b h = cc h
+
+-- a digit is no space, and no byte that csv knows
+pub digit-range : (c : ℕ) → is_ascii_digit c ≡ true → (48 ≤ c) × (c ≤ 57)
+digit-range c h = (leb-true 48 c (both-left (nat_le 48 c) (nat_le c 57) h), leb-true c 57 (both-right (nat_le 48 c) (nat_le c 57) h))
+
 pub digit-no-space : (c : ℕ) → is_ascii_digit c ≡ true → is_space c ≡ false
-digit-no-space c h =
-    let low : 48 ≤ c = leb-true 48 c (both-left (nat_le 48 c) (nat_le c 57) h) in
-    ne_eqb c 32 (λ e. omega arith)
+digit-no-space c h = let low = (digit-range c h).0 in ne_eqb c 32 (λ e. omega arith)
 
 -- what is not of the form
 none-short : (b c : Bool) (n : ℕ) → (if false && (b && c) then Some n else None) ≡ None
@@ -125,6 +130,16 @@ before-spaces-is t count some is all =
     (λ h. digit-no-space _ (prefix_len_passes is_ascii_digit t (count - 1) 0 (omega arith))) in
     ap (λ n. take n t) (let e : length t - suffix_len is_space t ≡ count = omega arith in e)
 
+-- the digits in front are digits
+pub digits-pass : (t : List ℕ) (count : ℕ) → count ≡ prefix_len is_ascii_digit t → list_all is_ascii_digit (take count t) ≡ true
+digits-pass t count is =
+    let within = prefix_len-le-length is_ascii_digit t in
+    let size : length (take count t) ≡ count = length-take-le count t (omega arith) in
+    list_all-from_AllPass is_ascii_digit (take count t)
+    (λ k d h. let inside : k < count = omega arith in
+    let passes = prefix_len_passes is_ascii_digit t k d (omega arith) in
+    rw (get_or-take count t k d inside) passes)
+
 pub number-whole : (t rest : List ℕ) (count spaces : ℕ) → 0 < count → count ≤ 10 → count ≡ prefix_len is_ascii_digit t → rest ≡ drop count t
     → spaces ≡ prefix_len is_space rest → length rest ≤ spaces → digits_number (before_spaces t) ≡ Some (digits_value 10 (take count t))
 number-whole t rest count spaces some few is left front all =
@@ -132,11 +147,7 @@ number-whole t rest count spaces some few is left front all =
     let no_more = prefix_len-le-length is_space rest in
     let end : prefix_len is_space rest ≡ length rest = omega arith in
     let size : length (take count t) ≡ count = simp length-take (omega arith) in
-    let digits : list_all is_ascii_digit (take count t) ≡ true =
-    list_all-from_AllPass is_ascii_digit (take count t)
-    (λ k d h. let inside : k < count = omega arith in
-    let passes = prefix_len_passes is_ascii_digit t k d (omega arith) in
-    rw (get_or-take count t k d inside) passes) in
+    let digits = digits-pass t count is in
     let low : nat_le 1 (length (take count t)) ≡ true = le-leb 1 (length (take count t)) (omega arith) in
     let high : nat_le (length (take count t)) 10 ≡ true = le-leb (length (take count t)) 10 (omega arith) in
     rw (before-spaces-is t count some is (rw left at end), low, high, digits) refl

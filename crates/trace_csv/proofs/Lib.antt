@@ -1,4 +1,7 @@
+pub mod BytesTaken
+pub mod DirectLemmas
 pub mod EachLemmas
+pub mod FewLines
 pub mod FieldLemmas
 pub mod InputLemmas
 pub mod OutputLemmas
@@ -11,4 +14,3 @@ pub mod SortedLemmas
 pub mod TraceLemmas
 pub mod VectorsLemmas
 pub mod WalkLemmas
-pub mod FewLines

@@ -1,12 +1,12 @@
 -- The lines of a trace, record by record.
-use Rattle.std.proofs.Common.{◌≡◌, ◌≤◌, ◌<◌, ◌+◌, ◌*◌, ◌^◌, ◌++◌, ◌∷◌, ℕ, List, [], length, Bool, true, false, Ok, Err, refl, sym, ap, arith, ◌∙◌, length-append}
+use Rattle.std.proofs.Common.{◌≡◌, ◌≤◌, ◌<◌, ◌+◌, ◌^◌, ◌++◌, ◌∷◌, ℕ, List, [], length, Bool, true, false, Ok, Err, refl, sym, ap, arith, ◌∙◌, length-append}
 use Rattle.std.proofs.lemmas.Bool.{eq-eqb, eqb-true, le-leb, ltb-true}
 use Rattle.std.proofs.Math.Nat.{zero-mul}
 use Rattle.std.specs.Prelude.{if◌then◌else◌, ◌==◌, ◌&&◌, nat_le, nat_lt, All, Option, Some, None}
 use Rattle.trace_csv.specs.Fields.{number}
 use Rattle.trace_csv.specs.Rows.{csv_rows}
 use Rattle.trace_csv.specs.Pieces.{pieces}
-use Rattle.trace_csv.specs.Trace.{Unsigned, each_from, line_of, lines_of, number_below, slot_of, trace_of}
+use Rattle.trace_csv.specs.Trace.{AreRead, Unsigned, each_from, line_of, lines_of, number_below, slot_of, trace_of}
 use Rattle.trace_csv.specs.declared.refusal.TraceError.{TraceError}
 use Rattle.trace_csv.specs.declared.refusal.TraceError.TheVariants.{Length, Ragged, TooBig}
 use Rattle.trace_csv.proofs.EachLemmas.{each-all, each-length, each-more, each-stop}
@@ -17,7 +17,7 @@ pub line_of-even : (width first row : ℕ) (fields : List (List ℕ)) → length
     → line_of (Unsigned width) first row fields ≡ each_from (slot_of (Unsigned width) row) 1 fields
 line_of-even width first row fields h = let e : (length fields == first) ≡ true = eq-eqb (length fields) first h in rw e refl
 
-length-line_of : (width first row : ℕ) (fields : List (List ℕ)) (line : List ℕ) → line_of (Unsigned width) first row fields ≡ Ok line → length line ≡ first
+pub length-line_of : (width first row : ℕ) (fields : List (List ℕ)) (line : List ℕ) → line_of (Unsigned width) first row fields ≡ Ok line → length line ≡ first
 length-line_of width first row fields line h = by (length fields == first) refl h
   where
     by : (b : Bool) → (length fields == first) ≡ b
@@ -33,11 +33,7 @@ lines_of-even width row rest low high =
     let most : nat_le (length row) 1024 ≡ true = le-leb (length row) 1024 high in
     rw (least, most) refl
 
--- what is known after some records: their lines are the pieces of the numbers
-pub record AreRead (width slots : ℕ) (rows : List (List (List ℕ))) (numbers : List ℕ) : Type 0 where
-  pub lines : each_from (line_of (Unsigned width) slots) 1 rows ≡ Ok (pieces slots (length rows) numbers)
-  pub whole : length numbers ≡ length rows * slots
-
+-- no record yet
 pub AreRead-none : (width slots : ℕ) (numbers : List ℕ) → numbers ≡ [] → AreRead width slots [] numbers
 unfolding each_from pieces
 AreRead-none width slots numbers e = record { lines = refl; whole = rw (e, zero-mul) refl }

@@ -1,5 +1,6 @@
 -- The number that a field writes: 1 to 10 digits, with any number of spaces before and after them.
-use Rattle.std.specs.Prelude.{ℕ, ◌-◌, ◌==◌, ◌&&◌, Bool, List, length, take, drop, nat_le, Option, Some, None, if◌then◌else◌}
+use Rattle.std.specs.Prelude.{ℕ, ◌-◌, ◌==◌, ◌&&◌, Bool, List, length, take, drop, nat_le}
+use Rattle.std.specs.Prelude.{Option, Some, None, if◌then◌else◌}
 use Rattle.std.specs.List.{list_all, prefix_len, suffix_len}
 use Rattle.std.specs.Char.{is_ascii_digit}
 use Rattle.std.specs.Str.Parse.{digits_value}
@@ -17,7 +18,8 @@ before_spaces text = take (length text - suffix_len is_space text) text
 -- the number that 1 to 10 digits write
 abbrev pub digits_number : List ℕ → Option ℕ
 digits_number text =
-    if nat_le 1 (length text) && (nat_le (length text) 10 && list_all is_ascii_digit text) then Some (digits_value 10 text) else None
+    if nat_le 1 (length text) && (nat_le (length text) 10 && list_all is_ascii_digit text)
+    then Some (digits_value 10 text) else None
 
 -- the number that a field writes, if it writes one
 abbrev pub number : List ℕ → Option ℕ

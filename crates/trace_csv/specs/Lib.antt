@@ -1,3 +1,4 @@
+pub mod Direct
 pub mod Fields
 pub mod Input
 pub mod Output

@@ -1,9 +1,12 @@
 -- What the bytes of a trace stand for: its lines of numbers, or the first refusal.
-use Rattle.std.specs.Prelude.{◌≡◌, ℕ, ◌+◌, ◌^◌, ◌==◌, ◌&&◌, ◌++◌, List, [], ◌∷◌, length, Option, Some, None, Result, Ok, Err, nat_le, nat_lt, if◌then◌else◌}
+use Rattle.std.specs.Prelude.{◌≡◌, ◌+◌, ◌*◌, ◌^◌, ◌==◌, ◌&&◌, ◌++◌, ◌∷◌, [], ℕ, List, length, if◌then◌else◌}
+use Rattle.std.specs.Prelude.{Option, Some, None, Result, Ok, Err, nat_le, nat_lt}
 use Rattle.trace_csv.specs.Fields.{number}
+use Rattle.trace_csv.specs.Pieces.{pieces}
 use Rattle.trace_csv.specs.Rows.{csv_rows}
 use Rattle.trace_csv.specs.declared.refusal.TraceError.{TraceError}
-use Rattle.trace_csv.specs.declared.refusal.TraceError.TheVariants.{NotANumber, TooBig, Ragged, Length, NoRecords}
+use Rattle.trace_csv.specs.declared.refusal.TraceError.TheVariants.{NotANumber, TooBig, Ragged}
+use Rattle.trace_csv.specs.declared.refusal.TraceError.TheVariants.{Length, NoRecords}
 
 -- how a trace writes its numbers: unsigned, each below 2 ^ width
 pub data Form : Type 0 where
@@ -33,17 +36,22 @@ number_below width row field (Some n) = if nat_lt n (2 ^ width) then Ok n else E
 abbrev pub slot_of : Form → ℕ → ℕ → List ℕ → Result ℕ TraceError
 slot_of (Unsigned width) row field text = number_below width row field (number text)
 
--- the line of a record: first the count of its fields, which is the first record's, and then the fields in order
+-- the line of a record: first the count of its fields, which is the first record's, then the fields in order
 abbrev pub line_of : Form → ℕ → ℕ → List (List ℕ) → Result (List ℕ) TraceError
 line_of form first row fields =
-    if length fields == first then each_from (slot_of form row) 1 fields else Err (Ragged row (length fields) first)
+    if length fields == first then each_from (slot_of form row) 1 fields
+    else Err (Ragged row (length fields) first)
+
+-- the lines of records of so many fields each, in order
+abbrev pub even_lines : Form → ℕ → List (List (List ℕ)) → Result (List (List ℕ)) TraceError
+even_lines form slots rows = each_from (line_of form slots) 1 rows
 
 -- the lines of records: first the count of the first one's fields, and then the records in order
 abbrev pub lines_of : Form → List (List (List ℕ)) → Result (List (List ℕ)) TraceError
 lines_of form [] = Err NoRecords
 lines_of form (first ∷ rest) =
     if nat_le 2 (length first) && nat_le (length first) (most_fields form)
-    then each_from (line_of form (length first)) 1 (first ∷ rest)
+    then even_lines form (length first) (first ∷ rest)
     else Err (Length 1 (length first))
 
 -- the lines of a trace, or the first refusal
@@ -55,3 +63,8 @@ pub record AddsLine (line : Result (List ℕ) TraceError) (old new : List ℕ) :
   pub added : List ℕ
   pub is_line : line ≡ Ok added
   pub at_end : new ≡ old ++ added
+
+-- the lines of these records are the numbers, cut into pieces
+pub record AreRead (width slots : ℕ) (rows : List (List (List ℕ))) (numbers : List ℕ) : Type 0 where
+  pub lines : even_lines (Unsigned width) slots rows ≡ Ok (pieces slots (length rows) numbers)
+  pub whole : length numbers ≡ length rows * slots

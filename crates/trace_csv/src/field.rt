@@ -21,7 +21,8 @@ fn leading_spaces(text: &[u8]) -> usize
 }
 
 // The number that the digits at the front write, and how many they are. More than 10 are refused.
-fn leading_digits(text: &[u8]) -> Option<(u64, usize)>
+#[inline(always)]
+pub(crate) fn leading_digits(text: &[u8]) -> Option<(u64, usize)>
     ensures many { IfNone result (10 < prefix_len is_ascii_digit text.now) }
     ensures count { IfSome result (λ r. r.1 ≡ prefix_len is_ascii_digit text.now) }
     ensures few { IfSome result (λ r. r.1 ≤ 10) }

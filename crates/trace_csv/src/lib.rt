@@ -5,6 +5,7 @@
 //! (`write_vectors`).
 #![tactic(auto)]
 
+mod direct;
 mod field;
 mod input;
 pub mod laws;

@@ -1,15 +1,20 @@
-ghost use Rattle.std.specs.Prelude.{◌≡◌, ◌≢◌, ◌≤◌, ◌<◌, ◌^◌, All, Ok, Err, IfOk, IfErr};
+//! A trace's bytes as lines of numbers: read directly where they are plain, and else by `csv`.
+ghost use Rattle.std.specs.Prelude.{◌≡◌, ◌≢◌, ◌≤◌, ◌<◌, ◌+◌, ◌*◌, ◌^◌, ◌∷◌, ◌⊎◌, [], true, length};
+ghost use Rattle.std.specs.Prelude.{All, Ok, Err, IfOk, IfErr, vec_len, vec_capacity};
+ghost use Rattle.csv.specs.Reading.{has_failed};
 ghost use Rattle.csv.specs.Records.{fields_of};
-ghost use Rattle.trace_csv.specs.Trace.{AddsLine, Unsigned, line_of, trace_of};
+ghost use Rattle.trace_csv.specs.Rows.{IsReading, rows_left};
+ghost use Rattle.trace_csv.specs.Trace.{AddsLine, AreRead, Unsigned, even_lines, line_of, trace_of};
 
+use crate::direct::read_directly;
 use crate::field::slot;
 use crate::rows::{next_row, open_rows};
 use crate::{Trace, TraceError};
-use csv::ByteRecord;
+use csv::{ByteRecord, Reader};
 use std::alloc::Global;
 
 // The most fields of a record.
-const MOST_FIELDS: usize = 1024;
+pub(crate) const MOST_FIELDS: usize = 1024;
 
 /// The lines of numbers that the bytes write, each number below 2^width.
 ///
@@ -20,13 +25,31 @@ const MOST_FIELDS: usize = 1024;
 /// which has 2 to 1024.
 ///
 /// Records are read in order, in each first the count of its fields and then the fields, and the
-/// first fault is the answer. Records and fields are counted from 1. `NoMemory` may come anywhere.
+/// first fault is the answer. Records and fields are counted from 1. `NoMemory` says that memory ran
+/// out, which may be at any record.
 pub fn read_trace(alloc: Global, bytes: &[u8], width: u32) -> Result<Trace, TraceError>
     requires some { 1 ≤ width }
     requires fits { width ≤ 31 }
     ensures lines { IfOk result (λ trace. trace_of (Unsigned width) bytes.now ≡ Ok trace) }
     ensures below { IfOk result (λ trace. All (λ line. All (λ n. n < 2 ^ width) line) trace) }
-    ensures refused { IfErr result (λ e. e ≢ TraceError.NoMemory → trace_of (Unsigned width) bytes.now ≡ Err e) }
+    // Each number takes two bytes at least, but for the last line's end.
+    ensures short { IfOk result (λ trace.
+        All (λ line. 2 * length line * length trace ≤ length bytes.now + 1) trace) }
+    ensures refused { IfErr result (λ e.
+        e ≢ TraceError.NoMemory → trace_of (Unsigned width) bytes.now ≡ Err e) }
+{
+    if let Some(trace) = read_directly(alloc, bytes, width) {
+        return Ok(trace);
+    }
+    read_rows(alloc, bytes, width)
+}
+
+// The same by `csv`, for any bytes.
+fn read_rows(alloc: Global, bytes: &[u8], width: u32) -> Result<Trace, TraceError>
+    requires { width ≤ 31 }
+    ensures lines { IfOk result (λ trace. trace_of (Unsigned width) bytes.now ≡ Ok trace) }
+    ensures refused { IfErr result (λ e.
+        e ≢ TraceError.NoMemory → trace_of (Unsigned width) bytes.now ≡ Err e) }
 {
     let mut reader = open_rows(alloc, bytes);
     let mut row = ByteRecord::new(alloc);
@@ -38,16 +61,44 @@ pub fn read_trace(alloc: Global, bytes: &[u8], width: u32) -> Result<Trace, Trac
         return Err(TraceError::Length(1, slots as u64));
     }
     let mut numbers = Vec::new(alloc);
+    let lines = add_lines(&mut reader, &mut row, width, slots, &mut numbers)?;
+    Ok(Trace::of_numbers(numbers, slots, lines))
+}
+
+// Adds the lines of the record at hand and of those that the reader has left, and says how many they are.
+//
+// `NoMemory` comes only where the reader stopped, or where the numbers have no room for a line more.
+fn add_lines(
+    reader: &mut Reader<&[u8]>,
+    row: &mut ByteRecord,
+    width: u32,
+    slots: usize,
+    numbers: &mut Vec<u32>,
+) -> Result<u64, TraceError>
+    requires fits { width ≤ 31 }
+    requires reading { IsReading reader.old }
+    requires few { length (rows_left reader.old) < 2 ^ 63 }
+    requires none { numbers.old.items ≡ [] }
+    ensures count { IfOk result (λ lines. lines ≡ length (rows_left reader.old) + 1) }
+    ensures read { IfOk result (λ _.
+        AreRead width slots (fields_of row.old ∷ rows_left reader.old) numbers.new.items) }
+    ensures refused { IfErr result (λ e. e ≢ TraceError.NoMemory →
+        even_lines (Unsigned width) slots (fields_of row.old ∷ rows_left reader.old) ≡ Err e) }
+    ensures memory { result ≡ Err TraceError.NoMemory →
+        (has_failed reader.new ≡ true) ⊎ (vec_capacity numbers.new < vec_len numbers.new + slots) }
+{
     for number in 1..u64::MAX {
-        add_line(&row, width, slots, number, &mut numbers)?;
-        if !next_row(&mut reader, &mut row)? {
-            return Ok(Trace::of_numbers(numbers, slots, number));
+        add_line(row, width, slots, number, numbers)?;
+        if !next_row(reader, row)? {
+            return Ok(number);
         }
     }
-    Err(TraceError::NoMemory)
+    unreachable!()
 }
 
 // Adds the line of a record to the numbers.
+//
+// `NoMemory` comes only where the numbers have no room for a line more.
 fn add_line(
     row: &ByteRecord,
     width: u32,
@@ -56,11 +107,19 @@ fn add_line(
     numbers: &mut Vec<u32>,
 ) -> Result<(), TraceError>
     requires { width ≤ 31 }
-    ensures added { IfOk result (λ _. AddsLine (line_of (Unsigned width) slots number (fields_of row.now)) numbers.old.items numbers.new.items) }
-    ensures refused { IfErr result (λ e. e ≢ TraceError.NoMemory → line_of (Unsigned width) slots number (fields_of row.now) ≡ Err e) }
+    ensures added { IfOk result (λ _.
+        AddsLine (line_of (Unsigned width) slots number (fields_of row.now))
+        numbers.old.items numbers.new.items) }
+    ensures refused { IfErr result (λ e.
+        e ≢ TraceError.NoMemory → line_of (Unsigned width) slots number (fields_of row.now) ≡ Err e) }
+    ensures memory { result ≡ Err TraceError.NoMemory →
+        vec_capacity numbers.new < vec_len numbers.new + slots }
 {
     if row.len() != slots {
         return Err(TraceError::Ragged(number, row.len() as u64, slots as u64));
+    }
+    if numbers.reserve(slots).is_err() {
+        return Err(TraceError::NoMemory);
     }
     for i in 0..slots {
         let Some(text) = row.get(i) else {
@@ -68,8 +127,11 @@ fn add_line(
         };
         let value = slot(text, width, number, i as u64 + 1)?;
         if numbers.push(value).is_err() {
-            return Err(TraceError::NoMemory);
+            unreachable!()
         }
     }
     Ok(())
 }
+
+#[cfg(test)]
+mod tests;

@@ -1,113 +1,13 @@
+//! Inputs, drawn traces and texts, with values from outside.
+
 use crate::{
-    InError, Stats, Summary, TraceError, WriteFault, generate, read_all, read_trace, write_report,
-    write_summary, write_vectors,
+    InError, Stats, Summary, WriteFault, generate, read_all, write_report, write_summary,
+    write_vectors,
 };
 use std::alloc::Global;
 use std::process::Abort;
 use std::test::Fail;
 use tdb_base::{MemSink, MemSource, Reply, SureSource};
-
-// The numbers of all lines of a trace and how many each line has.
-fn numbers_of(
-    rt: &impl Abort,
-    alloc: Global,
-    bytes: &[u8],
-    width: u32,
-) -> Result<(Vec<u32>, usize), TraceError> {
-    assert!(rt; 1 <= width && width <= 31);
-    let trace = read_trace(alloc, bytes, width)?;
-    let mut numbers = Vec::new(alloc);
-    for i in 0..trace.len() {
-        if numbers.extend_from_slice(trace.line(i)).is_err() {
-            return Err(TraceError::NoMemory);
-        }
-    }
-    Ok((numbers, trace.slots()))
-}
-
-#[test]
-fn traces_are_read(rt: HostRuntime) {
-    let alloc = rt.alloc();
-    let rows: [(&[u8], u32, &[u32], usize); 15] = [
-        (b"3,5\n5,3\n3,5\n", 28, &[3, 5, 5, 3, 3, 5], 2),
-        (b"3,5\n5,3", 28, &[3, 5, 5, 3], 2),
-        (b"3,5\r5,3\r", 28, &[3, 5, 5, 3], 2),
-        (b"\"1\",\" 2 \"\r\n1,2\r\n\r\n", 28, &[1, 2, 1, 2], 2),
-        (b"\n3,5\n\n\n5,3\n\n", 28, &[3, 5, 5, 3], 2),
-        (b"\xef\xbb\xbf3,5\n", 28, &[3, 5], 2),
-        (b"  3  , 5 ", 28, &[3, 5], 2),
-        (b"0000000003,5", 28, &[3, 5], 2),
-        (b"3,\"5", 28, &[3, 5], 2),
-        (b"1,\"2\"3", 28, &[1, 23], 2),
-        (b"268435455,0", 28, &[268435455, 0], 2),
-        (b"2147483647,2147483647", 31, &[2147483647, 2147483647], 2),
-        (b"65535,0", 16, &[65535, 0], 2),
-        (b"1,0", 1, &[1, 0], 2),
-        (b"0,0,0,0\n0,1,1,0\n", 16, &[0, 0, 0, 0, 0, 1, 1, 0], 4),
-    ];
-    for (bytes, width, numbers, slots) in rows {
-        let (all, each) = numbers_of(&rt, alloc, bytes, width).expect(&rt, "it is a trace");
-        assert_eq!(rt; all.as_slice(), numbers);
-        assert_eq!(rt; each, slots);
-    }
-}
-
-#[test]
-fn faulty_traces_are_refused(rt: HostRuntime) {
-    let alloc = rt.alloc();
-    let rows: [(&[u8], u32, TraceError); 29] = [
-        (b"", 28, TraceError::NoRecords),
-        (b"\n\r\n\r\n", 28, TraceError::NoRecords),
-        (b"\xef\xbb\xbf", 28, TraceError::NoRecords),
-        (b"7", 28, TraceError::Length(1, 1)),
-        (b"x", 28, TraceError::Length(1, 1)),
-        (b"\"\"", 28, TraceError::Length(1, 1)),
-        (b"1,2\n1", 28, TraceError::Ragged(2, 1, 2)),
-        (b"1,2\n\n1,2\n1,2,3", 28, TraceError::Ragged(3, 3, 2)),
-        (b"1,2\n  \n", 28, TraceError::Ragged(2, 1, 2)),
-        (b"1,2\nx\n", 28, TraceError::Ragged(2, 1, 2)),
-        (b"1,2\n1\nx,y", 28, TraceError::Ragged(2, 1, 2)),
-        (b"1,x\n1", 28, TraceError::NotANumber(1, 2)),
-        (b"1,,2", 28, TraceError::NotANumber(1, 2)),
-        (b"1,2\n3, ", 28, TraceError::NotANumber(2, 2)),
-        (b"x,y", 28, TraceError::NotANumber(1, 1)),
-        (b"1,268435456\nx,1", 28, TraceError::TooBig(1, 2)),
-        (b"x,268435456", 28, TraceError::NotANumber(1, 1)),
-        (b"268435456,x", 28, TraceError::TooBig(1, 1)),
-        (b"268435456,0", 28, TraceError::TooBig(1, 1)),
-        (b"2147483648,0", 31, TraceError::TooBig(1, 1)),
-        (b"65536,0", 16, TraceError::TooBig(1, 1)),
-        (b"9999999999,0", 31, TraceError::TooBig(1, 1)),
-        (b"00000000001,1", 28, TraceError::NotANumber(1, 1)),
-        (b"1 2,3", 28, TraceError::NotANumber(1, 1)),
-        (b"\t1,2", 28, TraceError::NotANumber(1, 1)),
-        (b"+1,2", 28, TraceError::NotANumber(1, 1)),
-        (b"1,-2", 28, TraceError::NotANumber(1, 2)),
-        (b"1,\"2\n", 28, TraceError::NotANumber(1, 2)),
-        (b"1\x00,2", 28, TraceError::NotANumber(1, 1)),
-    ];
-    for (bytes, width, refusal) in rows {
-        let result = numbers_of(&rt, alloc, bytes, width);
-        assert!(rt; matches!(&result, Err(e) if *e == refusal), "{refusal:?}");
-    }
-}
-
-#[test]
-fn records_have_at_most_1024_fields(rt: HostRuntime) -> Result<(), Fail> {
-    let alloc = rt.alloc();
-    let mut bytes = Vec::new(alloc);
-    for _ in 0..1023 {
-        bytes.extend_from_slice(b"7,")?;
-    }
-    bytes.push(b'7')?;
-    let (numbers, slots) = numbers_of(&rt, alloc, &bytes, 3).expect(&rt, "1024 fields");
-    assert_eq!(rt; slots, 1024);
-    assert_eq!(rt; numbers.len(), 1024);
-    bytes.extend_from_slice(b",7")?;
-    let refused = numbers_of(&rt, alloc, &bytes, 3);
-    assert!(rt; matches!(refused, Err(TraceError::Length(1, 1025))));
-    Ok(())
-}
 
 #[test]
 fn inputs_are_read_to_their_end(rt: HostRuntime) -> Result<(), Fail> {
@@ -163,6 +63,35 @@ fn reports_are_written(rt: HostRuntime) -> Result<(), Fail> {
     Ok(())
 }
 
+// How many lines, slots and values, the seed, and the numbers of all lines.
+type Drawn = (u64, usize, u64, u64, &'static [u32]);
+
+static DRAWN: [Drawn; 4] = [
+    (1, 2, 4, 1, &[0, 0]),
+    (5, 2, 5, 0, &[0, 0, 0, 2, 0, 1, 0, 0, 4, 0]),
+    (
+        7,
+        3,
+        65536,
+        18446744073709551615,
+        &[
+            0, 0, 0, 33659, 0, 0, 40286, 0, 0, 40286, 0, 40885, 40286, 0, 52580, 63263, 0, 52580,
+            63263, 0, 19124,
+        ],
+    ),
+    (
+        8,
+        8,
+        4,
+        1,
+        &[
+            0, 0, 0, 0, 0, 0, 0, 0, 0, 0, 0, 0, 0, 0, 0, 0, 0, 0, 0, 0, 0, 0, 0, 2, 0, 0, 0, 0, 0,
+            0, 0, 2, 0, 0, 0, 2, 0, 0, 0, 2, 2, 0, 0, 2, 0, 0, 0, 2, 1, 0, 0, 2, 0, 0, 0, 2, 1, 0,
+            0, 2, 0, 2, 0, 2,
+        ],
+    ),
+];
+
 // The numbers of all lines of a drawn trace.
 fn drawn(
     rt: &impl Abort,
@@ -187,32 +116,8 @@ fn drawn(
 #[test]
 fn traces_are_drawn(rt: HostRuntime) -> Result<(), Fail> {
     let alloc = rt.alloc();
-    let rows: [(u64, usize, u64, u64, &[u32]); 4] = [
-        (1, 2, 4, 1, &[0, 0]),
-        (5, 2, 5, 0, &[0, 0, 0, 2, 0, 1, 0, 0, 4, 0]),
-        (
-            7,
-            3,
-            65536,
-            18446744073709551615,
-            &[
-                0, 0, 0, 33659, 0, 0, 40286, 0, 0, 40286, 0, 40885, 40286, 0, 52580, 63263, 0,
-                52580, 63263, 0, 19124,
-            ],
-        ),
-        (
-            8,
-            8,
-            4,
-            1,
-            &[
-                0, 0, 0, 0, 0, 0, 0, 0, 0, 0, 0, 0, 0, 0, 0, 0, 0, 0, 0, 0, 0, 0, 0, 2, 0, 0, 0, 0,
-                0, 0, 0, 2, 0, 0, 0, 2, 0, 0, 0, 2, 2, 0, 0, 2, 0, 0, 0, 2, 1, 0, 0, 2, 0, 0, 0, 2,
-                1, 0, 0, 2, 0, 2, 0, 2,
-            ],
-        ),
-    ];
-    for (lines, slots, values, seed, numbers) in rows {
+    for i in 0..DRAWN.len() {
+        let (lines, slots, values, seed, numbers) = DRAWN[i];
         let all = drawn(&rt, alloc, lines, slots, values, seed)?;
         assert_eq!(rt; all.as_slice(), numbers);
     }

@@ -1,4 +1,4 @@
-use Rattle.std.proofs.Common.{◌≡◌, ◌∙◌, ◌++◌, ◌∷◌, [], arith, rules, sym, refl, ap, append_assoc, true, List, ℕ}
+use Rattle.std.proofs.Common.{◌≡◌, ◌∙◌, ◌++◌, ◌∷◌, [], arith, rules, sym, refl, ap, append_assoc, true, List, ℕ, ◌≤◌, ◌+◌, vec_len, vec_capacity}
 use Rattle.std.proofs.lemmas.List.{append-nil}
 use Rattle.std.proofs.lemmas.Result.{err_from_is_err_and}
 use Rattle.std.specs.Result.{is_ok}
@@ -10,7 +10,14 @@ use Rattle.trace_csv.proofs.read.add_line.Goals as goal
 
 pub loop-i-init : goal.loop-i-init
 unfolding each_from
-loop-i-init c = record { added = []; items = sym (append-nil _); so_far = refl }
+loop-i-init c =
+    let room : vec_len c.reserve.new.self + c.args.slots ≤ vec_capacity c.reserve.new.self = search rules in
+    record {
+      added = [];
+      items = sym (append-nil _);
+      so_far = refl;
+      room = omega (arith, room);
+    }
 
 pub unreachable-requires : goal.unreachable-requires
 unreachable-requires c = field-there (fields_of c.args.row.now) c.loop-i.i (omega arith) (sym c.in_default.ensures.value)
@@ -29,7 +36,8 @@ loop-i-preserved c =
     let items = rw good at c.push.ensures.items in
     record {
       added = inv.added ++ c.in_ok-value.value ∷ [];
-      items = items ∙ ap (λ (t : List ℕ). t ++ c.in_ok-value.value ∷ []) inv.items ∙ append_assoc c.args.numbers.now.items inv.added (c.in_ok-value.value ∷ []);
+      items = items ∙ ap (λ (t : List ℕ). t ++ c.in_ok-value.value ∷ []) inv.items ∙ append_assoc _ inv.added (c.in_ok-value.value ∷ []);
       so_far = field-more (slot_of (Unsigned c.args.width) c.args.number) (fields_of c.args.row.now) c.loop-i.i c.in-Some.text.now inv.added _
           (omega arith) (sym c.in-Some.ensures.value) inv.so_far (sym c.in_ok-value.ensures);
+      room = omega arith;
     }

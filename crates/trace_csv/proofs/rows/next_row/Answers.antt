@@ -3,12 +3,13 @@ use Rattle.csv.specs.Records.{fields_of}
 use Rattle.trace_csv.proofs.RowLemmas.{next-none, next-some}
 use Rattle.trace_csv.proofs.rows.next_row.Goals as goal
 
-pub returns-clause-reading : goal.returns-clause-reading
-returns-clause-reading c = λ e.
+pub returns-in-Ok-clause-reading : goal.returns-in-Ok-clause-reading
+returns-in-Ok-clause-reading c = λ e.
     let found : c.in-Ok.found ≡ true = cc e in
     let read = rw found at (c.in-Ok.ensures.reads c.requires.trim c.requires.ready) in
     let next = next-some c.args.reader.now c.read_byte_record.new.self (fields_of c.read_byte_record.new.row) c.requires read in
     record {
+      flexible = c.in-Ok.ensures.flexible ∙ c.requires.flexible;
       trim = read.3 ∙ c.requires.trim;
       ready = inl (c.in-Ok.ensures.ready c.requires.trim);
       config = read.2 ∙ c.requires.config;
@@ -16,14 +17,14 @@ returns-clause-reading c = λ e.
       known = next.known;
     }
 
-pub returns-clause-row : goal.returns-clause-row
-returns-clause-row c = λ e.
+pub returns-in-Ok-clause-row : goal.returns-in-Ok-clause-row
+returns-in-Ok-clause-row c = λ e.
     let found : c.in-Ok.found ≡ true = cc e in
     let read = rw found at (c.in-Ok.ensures.reads c.requires.trim c.requires.ready) in
     (next-some c.args.reader.now c.read_byte_record.new.self (fields_of c.read_byte_record.new.row) c.requires read).rows
 
-pub returns-clause-end : goal.returns-clause-end
-returns-clause-end c = λ e.
+pub returns-in-Ok-clause-end : goal.returns-in-Ok-clause-end
+returns-in-Ok-clause-end c = λ e.
     let found : c.in-Ok.found ≡ false = cc e in
     let read = rw found at (c.in-Ok.ensures.reads c.requires.trim c.requires.ready) in
     next-none c.args.reader.now c.read_byte_record.new.self (fields_of c.read_byte_record.new.row) c.requires read
