@@ -1,8 +1,8 @@
 -- The first line of a text, where it is digits, commas and a line end.
 use Rattle.std.proofs.Common.{◌≡◌, ◌≤◌, ◌<◌, ◌+◌, ◌-◌, ◌^◌, ◌++◌, ℕ, suc, List, [], ◌∷◌, length, take, drop, get_or, Bool, true, false, Some, Ok, refl, sym, ap, arith, ◌∙◌, append-nil, append_assoc, length-append, ◌⊎◌, inl, inr, ⊎_elim}
 use Rattle.std.proofs.lemmas.Bool.{ne_eqb, lt-ltb}
-use Rattle.std.proofs.lemmas.List.{drop_all, get_or-take, length-take-le, take-append-drop, take_all}
-use Rattle.std.proofs.lemmas.List.Sums.{prefix_len-le-length, prefix_len_is, prefix_len_passes}
+use Rattle.std.proofs.lemmas.List.{get_or-take, length-take-le, take-append-drop, take_all}
+use Rattle.std.proofs.lemmas.List.Sums.{prefix_len-le-length, prefix_len_passes}
 use Rattle.std.specs.Prelude.{if◌then◌else◌, ◌==◌, ◌||◌}
 use Rattle.std.specs.Char.{is_ascii_digit}
 use Rattle.std.specs.List.{list_all, prefix_len}
@@ -13,13 +13,13 @@ use Rattle.csv.specs.declared.parser.State.{State}
 use Rattle.csv.specs.declared.parser.State.TheVariants as st
 use Rattle.csv.specs.declared.parser.Action.{Action}
 use Rattle.csv.specs.declared.parser.Action.TheVariants as act
-use Rattle.trace_csv.specs.Fields.{before_spaces, digits_number, is_space, number}
+use Rattle.trace_csv.specs.Fields.{number}
 use Rattle.trace_csv.specs.Direct.{AddsFirstLine, AddsNumber}
 use Rattle.trace_csv.specs.Pieces.{pieces}
 use Rattle.trace_csv.specs.Rows.{csv_rows, rows_from}
 use Rattle.trace_csv.specs.Trace.{AreRead, Unsigned, each_from, line_of, lines_of, slot_of, trace_of}
 use Rattle.trace_csv.proofs.EachLemmas.{each-length, each-more}
-use Rattle.trace_csv.proofs.FieldLemmas.{both-left, both-right, digit-no-space, digit-range, digits-pass, number-whole}
+use Rattle.trace_csv.proofs.FieldLemmas.{both-left, both-right, digit-range, digits-pass, digits-write}
 use Rattle.trace_csv.proofs.RowLemmas.{rows-none, rows-some, same-rows}
 use Rattle.trace_csv.proofs.TraceLemmas.{AreRead-more, AreRead-none, line_of-even, lines_of-even}
 
@@ -63,16 +63,6 @@ some-digits (c ∷ d ∷ digits) s fields field rest takes some all =
     one-digit s fields field c (d ∷ digits ++ rest) takes (both-left (is_ascii_digit c) _ all)
     ∙ some-digits (d ∷ digits) st.InField fields (field ++ c ∷ []) rest in-field (omega arith) (both-right (is_ascii_digit c) _ all)
     ∙ ap (λ t. next_record default_config st.InField fields t rest) (append_assoc field (c ∷ []) (d ∷ digits))
-
--- a field of digits alone writes their number
-digits-write : (n : ℕ) (t : List ℕ) → 0 < n → n ≤ 10 → length t ≡ n → ((k : ℕ) → k < n → is_ascii_digit (get_or t k 0) ≡ true)
-    → number t ≡ Some (digits_value 10 t)
-digits-write n t some few size digits =
-    let no_spaces : prefix_len is_space t ≡ 0 = prefix_len_is is_space t 0 0 (omega arith) (λ k h. absurd (omega arith)) (λ h. digit-no-space _ (digits 0 some)) in
-    let all : prefix_len is_ascii_digit t ≡ n = prefix_len_is is_ascii_digit t n 0 (omega arith) digits (λ h. absurd (omega arith)) in
-    ap (λ k. digits_number (before_spaces (drop k t))) no_spaces
-    ∙ number-whole t [] n 0 some few (sym all) (sym (drop_all n t (omega arith))) refl (omega arith)
-    ∙ ap (λ (u : List ℕ). Some (digits_value 10 u)) (take_all n t (omega arith))
 
 pub digits-add : (width value n : ℕ) (text rest old new : List ℕ) → 0 < n → n ≤ 10 → n ≡ prefix_len is_ascii_digit text → value ≡ digits_value 10 (take n text)
     → value < 2 ^ width → rest ≡ drop n text → new ≡ old ++ value ∷ [] → AddsNumber width text rest old new

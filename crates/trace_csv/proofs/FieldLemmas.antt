@@ -1,15 +1,15 @@
 -- The number that a field writes, read from its front.
-use Rattle.std.proofs.Common.{◌≡◌, ◌≤◌, ◌<◌, ◌+◌, ◌*◌, ◌-◌, ◌^◌, ℕ, List, length, take, drop, get_or, Bool, true, false, Some, None, refl, sym, ap, arith, ◌∙◌, add-one, length-drop, ⊎_elim}
-use Rattle.std.proofs.lemmas.List.{get_or-drop, get_or-reverse, get_or-take, length-take, length-take-le}
+use Rattle.std.proofs.Common.{◌≡◌, ◌≤◌, ◌<◌, ◌+◌, ◌*◌, ◌-◌, ◌^◌, ℕ, List, [], length, take, drop, get_or, Bool, true, false, Some, None, refl, sym, ap, arith, ◌∙◌, add-one, length-drop, ⊎_elim}
+use Rattle.std.proofs.lemmas.List.{drop_all, get_or-drop, get_or-reverse, get_or-take, length-take, length-take-le, take_all}
 use Rattle.std.proofs.lemmas.List.Folds.{list_all_at}
-use Rattle.std.proofs.lemmas.List.Sums.{list_all-from_AllPass, prefix_len-le-length, prefix_len_passes, prefix_len_stops, suffix_len_is}
+use Rattle.std.proofs.lemmas.List.Sums.{list_all-from_AllPass, prefix_len-le-length, prefix_len_is, prefix_len_passes, prefix_len_stops, suffix_len_is}
 use Rattle.std.proofs.lemmas.Bool.{cases_lt, le-leb, leb-true, lt-leb, ne_eqb}
 use Rattle.std.specs.Prelude.{if◌then◌else◌, ◌&&◌, nat_le, reverse}
 use Rattle.std.proofs.lemmas.Int.Digits.{digits_value_more}
 use Rattle.std.specs.Char.{digit_value, is_ascii_digit}
 use Rattle.std.specs.List.{list_all, prefix_len, suffix_len}
 use Rattle.std.specs.Str.Parse.{digits_value}
-use Rattle.trace_csv.specs.Fields.{before_spaces, digits_number, is_space}
+use Rattle.trace_csv.specs.Fields.{before_spaces, digits_number, is_space, number}
 
 -- where the items up to a place pass, that place is within the front that passes
 pub prefix-past : (p : ℕ → Bool) (xs : List ℕ) (n : ℕ) → n < length xs → ((k : ℕ) → k < n + 1 → p (get_or xs k 0) ≡ true) → n < prefix_len p xs
@@ -151,3 +151,19 @@ number-whole t rest count spaces some few is left front all =
     let low : nat_le 1 (length (take count t)) ≡ true = le-leb 1 (length (take count t)) (omega arith) in
     let high : nat_le (length (take count t)) 10 ≡ true = le-leb (length (take count t)) 10 (omega arith) in
     rw (before-spaces-is t count some is (rw left at end), low, high, digits) refl
+
+-- a field of digits alone writes their number
+pub digits-write : (n : ℕ) (t : List ℕ) → 0 < n → n ≤ 10 → length t ≡ n → ((k : ℕ) → k < n → is_ascii_digit (get_or t k 0) ≡ true)
+    → number t ≡ Some (digits_value 10 t)
+digits-write n t some few size digits =
+    let no_spaces : prefix_len is_space t ≡ 0 = prefix_len_is is_space t 0 0 (omega arith) (λ k h. absurd (omega arith)) (λ h. digit-no-space _ (digits 0 some)) in
+    let all : prefix_len is_ascii_digit t ≡ n = prefix_len_is is_ascii_digit t n 0 (omega arith) digits (λ h. absurd (omega arith)) in
+    ap (λ k. digits_number (before_spaces (drop k t))) no_spaces
+    ∙ number-whole t [] n 0 some few (sym all) (sym (drop_all n t (omega arith))) refl (omega arith)
+    ∙ ap (λ (u : List ℕ). Some (digits_value 10 u)) (take_all n t (omega arith))
+
+pub digits-whole : (n : ℕ) (t : List ℕ) → 0 < n → n ≤ 10 → length t ≤ n → n ≡ prefix_len is_ascii_digit t → number t ≡ Some (digits_value 10 (take n t))
+digits-whole n t some few all is =
+    let within = prefix_len-le-length is_ascii_digit t in
+    digits-write n t some few (omega arith) (λ k h. prefix_len_passes is_ascii_digit t k 0 (omega arith))
+    ∙ ap (λ (u : List ℕ). Some (digits_value 10 u)) (sym (take_all n t all))

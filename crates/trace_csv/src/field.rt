@@ -1,4 +1,5 @@
-ghost use Rattle.std.specs.Prelude.{◌≡◌, ◌≤◌, ◌<◌, ◌^◌, take, IfSome, IfNone, length};
+//! What a field of a record writes, read from its front.
+ghost use Rattle.std.specs.Prelude.{◌≡◌, ◌≤◌, ◌<◌, ◌^◌, take, Some, IfSome, IfNone, length};
 ghost use Rattle.std.specs.Char.{is_ascii_digit};
 ghost use Rattle.std.specs.List.{prefix_len};
 ghost use Rattle.std.specs.Str.Parse.{digits_value};
@@ -42,8 +43,21 @@ pub(crate) fn leading_digits(text: &[u8]) -> Option<(u64, usize)>
     Some((value, text.len()))
 }
 
-// The number that a field writes, if it writes one.
-fn number_of(field: &[u8]) -> Option<u64>
+// The number that a field of digits alone writes.
+fn digits_alone(field: &[u8]) -> Option<u64>
+    ensures value { IfSome result (λ n. number field.now ≡ Some n) }
+    ensures small { IfSome result (λ n. n < 10 ^ 10) }
+{
+    let (value, count) = leading_digits(field)?;
+    if count == 0 || count < field.len() {
+        return None;
+    }
+    Some(value)
+}
+
+// The number that a field writes, if it writes one, with any spaces round it.
+#[inline(never)]
+fn number_among_spaces(field: &[u8]) -> Option<u64>
     ensures value { result ≡ number field.now }
     ensures small { IfSome result (λ n. n < 10 ^ 10) }
 {
@@ -59,6 +73,17 @@ fn number_of(field: &[u8]) -> Option<u64>
         return None;
     }
     Some(value)
+}
+
+// The number that a field writes, if it writes one. Most fields are digits alone.
+fn number_of(field: &[u8]) -> Option<u64>
+    ensures value { result ≡ number field.now }
+    ensures small { IfSome result (λ n. n < 10 ^ 10) }
+{
+    if let Some(value) = digits_alone(field) {
+        return Some(value);
+    }
+    number_among_spaces(field)
 }
 
 // What a field of a record writes.

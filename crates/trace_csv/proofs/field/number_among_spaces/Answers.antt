@@ -1,7 +1,7 @@
 use Rattle.std.proofs.Common.{◌≡◌, ◌∙◌, Some, ap, arith, drop, sym}
 use Rattle.trace_csv.specs.Fields.{after_spaces, before_spaces, digits_number}
 use Rattle.trace_csv.proofs.FieldLemmas.{number-long, number-more, number-whole}
-use Rattle.trace_csv.proofs.field.number_of.Goals as goal
+use Rattle.trace_csv.proofs.field.number_among_spaces.Goals as goal
 
 pub returns-in_default-clause-value : goal.returns-in_default-clause-value
 returns-in_default-clause-value c =
