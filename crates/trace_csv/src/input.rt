@@ -1,9 +1,10 @@
-ghost use Rattle.std.specs.Prelude.{◌≡◌, ◌≤◌, IfOk, OnOk, IfSome, IsErrOf, vec_len};
+//! An input as it comes in, to its end.
+ghost use Rattle.std.specs.Prelude.{◌≡◌, ◌≤◌, ◌+◌, ◌++◌, IfOk, OnOk, IfSome, IsErrOf, length, vec_len};
 ghost use Rattle.std.specs.Io.KnownBytes.{IsAtEnd};
 ghost use Rattle.tdb_base.specs.Causes.{Rose};
 ghost use Rattle.trace_csv.specs.Input.{ReadsWithin, limit};
 
-use std::alloc::Global;
+use std::alloc::{AllocError, Global};
 use tdb_base::Source;
 
 /// Why an input was not read to its end.
@@ -25,8 +26,8 @@ const ROOM: usize = 65_536;
 
 /// Every byte that the source has left, at most 67,108,864 of them, read to its end.
 ///
-/// With `ReadFault` the source's count of faults rose in the call. `TooMuch` is the answer to a source that gave more than
-/// that, and to no other. `NoMemory` may come anywhere.
+/// With `ReadFault` the source's count of faults rose in the call. `TooMuch` is the answer to a source that gave
+/// more than that, and to no other. `NoMemory` says that memory ran out, which may be anywhere.
 pub fn read_all<S: Source>(alloc: Global, source: &mut S) -> Result<Vec<u8>, InError>
     ensures bytes { IfOk result (λ v. IfSome (S.left source.old) (λ b. v.items ≡ b)) }
     ensures end { OnOk result (IsAtEnd (S.left source.new)) }
@@ -47,9 +48,23 @@ pub fn read_all<S: Source>(alloc: Global, source: &mut S) -> Result<Vec<u8>, InE
         if count > LIMIT - all.len() {
             return Err(InError::TooMuch);
         }
-        if all.extend_from_slice(&buffer[..count]).is_err() {
+        if add_piece(&buffer[..count], &mut all).is_err() {
             return Err(InError::NoMemory);
         }
     }
     unreachable!()
+}
+
+// Adds a piece to what was read.
+//
+// Where a second piece has no room, room for all that may come is asked for at once, so that no byte is moved
+// more than once. Where there isn't so much, the list grows as it fills.
+fn add_piece(piece: &[u8], all: &mut Vec<u8>) -> Result<(), AllocError>
+    requires { vec_len all.old + length piece.now ≤ limit }
+    ensures { OnOk result (all.new.items ≡ all.old.items ++ piece.now) }
+{
+    if !all.is_empty() && all.capacity() - all.len() < piece.len() {
+        let _ = all.reserve_exact(LIMIT - all.len());
+    }
+    all.extend_from_slice(piece)
 }
