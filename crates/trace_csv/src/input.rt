@@ -26,8 +26,8 @@ const ROOM: usize = 65_536;
 
 /// Every byte that the source has left, at most 67,108,864 of them, read to its end.
 ///
-/// With `ReadFault` the source's count of faults rose in the call. `TooMuch` is the answer to a source that gave
-/// more than that, and to no other. `NoMemory` says that memory ran out, which may be anywhere.
+/// With `ReadFault` the source's count of faults rose in the call. `TooMuch` is the answer to a source that
+/// gave more than that, and to no other. `NoMemory` says that memory ran out, which may be anywhere.
 pub fn read_all<S: Source>(alloc: Global, source: &mut S) -> Result<Vec<u8>, InError>
     ensures bytes { IfOk result (λ v. IfSome (S.left source.old) (λ b. v.items ≡ b)) }
     ensures end { OnOk result (IsAtEnd (S.left source.new)) }
