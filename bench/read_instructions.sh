@@ -11,15 +11,15 @@ make -s -C "$yard" OUT="$out" "$out/tracegen"
 
 count() {
   local all
-  all=$(valgrind --tool=callgrind --callgrind-out-file="$out/cg.out" crates/measure/out/measure read-trace 1 2>&1 |
-    sed -n 's/.*Collected : //p')
+  all=$(valgrind --tool=callgrind --callgrind-out-file="$out/cg.out" crates/measure/out/measure read-trace 1 \
+    < "$out/t/case" 2>&1 | sed -n 's/.*Collected : //p')
   echo "$1 $((all / lines))"
 }
 
 for name in M R; do
   head -n $lines "$out/t/$name" > "$out/t/$name.head"
-  count "$name" < "$out/t/$name.head"
-  sed 's/$/\r/' "$out/t/$name.head" | count "$name, CRLF"
-  sed '$ s/,\([0-9]*\)$/,"\1"/' "$out/t/$name.head" | count "$name, a quote in the last line"
-  sed 's/,/, /g' "$out/t/$name.head" | count "$name, a space after each comma"
+  cp "$out/t/$name.head" "$out/t/case" && count "$name"
+  sed 's/$/\r/' "$out/t/$name.head" > "$out/t/case" && count "$name, CRLF"
+  sed '$ s/,\([0-9]*\)$/,"\1"/' "$out/t/$name.head" > "$out/t/case" && count "$name, a quote in the last line"
+  sed 's/,/, /g' "$out/t/$name.head" > "$out/t/case" && count "$name, a space after each comma"
 done
