@@ -1,6 +1,7 @@
 #!/usr/bin/env bash
-# bench/read_instructions.sh: instructions a line of `measure read-trace` by callgrind, on the first 50,000 lines of
-# the traces M and R: as they are, with CRLF, with a quote in the last line, and with a space after each comma.
+# bench/read_instructions.sh: instructions a line of `measure read-trace` by callgrind, on the first 50,000
+# lines of the traces M and R: as they are, with CRLF, with a quote in the last line, and with a space after
+# each comma.
 # Needs ../shared/yardstick, g++ and valgrind.
 source "$(dirname "${BASH_SOURCE[0]}")/setup.sh"
 lines=50000
