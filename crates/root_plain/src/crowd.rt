@@ -28,6 +28,7 @@ fn put_twelve(
     begins: u64,
     answers: &mut [Option<(u64, bool)>; 12],
 )
+    requires width { store.now.about.width ≡ 16 }
     requires slots { store.now.about.slots ≡ 2 }
     requires rest { AtRest plain store.now pass.old }
     ensures { AtRest plain store.now pass.new }
@@ -41,6 +42,7 @@ fn put_twelve(
 
 // All callers put the roots, each in a thread of its own.
 fn put_at_once<H: Threads + Sync>(rt: &H, store: &Store, callers: &mut [Caller])
+    requires width { store.now.about.width ≡ 16 }
     requires slots { store.now.about.slots ≡ 2 }
     requires callers { All (λ c. AtRest plain store.now c.pass) callers.old }
     ensures { All (λ c. AtRest plain store.now c.pass) callers.new }
@@ -52,6 +54,7 @@ fn put_at_once<H: Threads + Sync>(rt: &H, store: &Store, callers: &mut [Caller])
             callers,
             count,
             &|_, caller: &mut Caller|
+                requires width { store.now.about.width ≡ 16 }
                 requires slots { store.now.about.slots ≡ 2 }
                 requires rest { AtRest plain store.now caller.now.pass }
                 ensures { AtRest plain store.entry.now caller.exit.now.pass }
@@ -73,7 +76,7 @@ fn split_callers(
     ensures rest { AtRest plain store.now pass.new }
     ensures callers { IfOk result (λ v. All (λ c. AtRest plain store.now c.pass) v.items) }
 {
-    let table = &store.table;
+    let table = store.table();
     let mut callers = Vec::new(alloc);
     for number in 0..count {
         let pass = table.split(alloc, pass)?;

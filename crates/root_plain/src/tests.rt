@@ -20,6 +20,7 @@ pub(crate) type StorePass = Pass<PlainRoot<16, 8>, 16, 8>;
 // A store of vectors of two slots, with `2^roots` buckets for roots, and its pass.
 pub(crate) fn store(alloc: Global, roots: u32) -> Result<(Store, StorePass), NoMemory>
     requires { (3 ≤ roots) × (roots ≤ 24) }
+    ensures width { IfOk result (λ made. made.0.about.width ≡ 16) }
     ensures slots { IfOk result (λ made. made.0.about.slots ≡ 2) }
     ensures rest { IfOk result (λ made. AtRest plain made.0 made.1) }
 {
@@ -41,6 +42,7 @@ pub(crate) fn put<L: Ledger>(
     right: u64,
     steps: &mut Steps<L>,
 ) -> Option<(u64, bool)>
+    requires width { store.now.about.width ≡ 16 }
     requires slots { store.now.about.slots ≡ 2 }
     requires rest { AtRest plain store.now pass.old }
     requires parts { (left < 2 ^ 16) × (right < 2 ^ 16) }
@@ -108,6 +110,7 @@ fn put_three(
     Option<(u64, bool)>,
     Option<(u64, bool)>,
 )
+    requires width { store.now.about.width ≡ 16 }
     requires slots { store.now.about.slots ≡ 2 }
     requires rest { AtRest plain store.now pass.old }
     requires small { first < 2 ^ 15 }

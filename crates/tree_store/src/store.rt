@@ -33,6 +33,13 @@ impl<R: RootPart<W, F>, const W: u32, const F: u32> TreeStore<R, W, F> {
     {
         &self.nodes
     }
+
+    /// How many slots a vector of this store has.
+    pub fn slots(&self) -> usize
+        ensures { result ≡ self.now.about.slots }
+    {
+        self.shape.slots()
+    }
 }
 
 /// A store whose roots stand in a plain table: an identifier is a bucket's number, below `2^roots`.

@@ -52,8 +52,7 @@ pub(crate) fn lines(
     ensures fit { IfOk result (λ trace. All (IsVector store.now.about) trace) }
 {
     let trace = read_trace(alloc, text, 16)?;
-    let shape = &store.shape;
-    assert!(rt; trace.slots() == shape.slots());
+    assert!(rt; trace.slots() == store.slots());
     Ok(trace)
 }
 

@@ -156,8 +156,7 @@ fn read_back(rt: &impl Abort, store: &Store, pass: &mut StorePass, line: &[u32],
     let Some(id) = reply.id() else {
         return;
     };
-    let shape = &store.shape;
-    let slots = shape.slots();
+    let slots = store.slots();
     assert!(rt; slots <= 5);
     let mut out = [9; 5];
     assert!(rt; store.lookup(pass, id, &mut out[..slots]));

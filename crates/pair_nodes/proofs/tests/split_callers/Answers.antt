@@ -7,8 +7,8 @@ use Rattle.pair_nodes.proofs.tests.split_callers.Goals as goal
 
 pub loop-number-preserved : goal.loop-number-preserved
 loop-number-preserved c =
-    let P = λ (x : Rattle.pair_nodes.specs.declared.tests.Caller.Caller (Unit {0})). AtRest no_roots c.args.nodes.now.table.table.shared.table_id c.args.nodes.now.about x.pass in
+    let P = λ (x : Rattle.pair_nodes.specs.declared.tests.Caller.Caller (Unit {0})). AtRest no_roots c.args.nodes.now x.pass in
     record {
-      rest = c.split.ensures.rest;
-      callers = subst (λ l. All P l) (sym c.in_ok-push.ensures.items) (All-push P c.loop-number.callers.items _ c.loop-number.invariant.callers c.in_ok-pass.ensures.new_rest);
+      rest = c.in_ok-pass.split.rest;
+      callers = subst (λ l. All P l) (sym c.in_ok-push.ensures.items) (All-push P c.loop-number.callers.items _ c.loop-number.invariant.callers c.in_ok-pass.split.child_rest);
     }

@@ -10,6 +10,6 @@ pub loop-number-preserved : goal.loop-number-preserved
 loop-number-preserved c =
     let P = λ (x : Caller). AtRest plain c.args.store.now x.pass in
     record {
-      rest = c.split.ensures.rest;
-      callers = subst (λ l. All P l) (sym c.in_ok-push.ensures.items) (All-push P c.loop-number.callers.items _ c.loop-number.invariant.callers c.in_ok-pass.ensures.new_rest);
+      rest = c.in_ok-pass.split.rest;
+      callers = subst (λ l. All P l) (sym c.in_ok-push.ensures.items) (All-push P c.loop-number.callers.items _ c.loop-number.invariant.callers c.in_ok-pass.split.child_rest);
     }
