@@ -1,3 +1,5 @@
+//! The words of a region, as they are reached one at a time.
+
 ghost use Rattle.std.specs.Prelude.{◌≡◌, ◌⊎◌, ℕ, ◌<◌, List, length, slice_index, slice_set};
 ghost use Rattle.cleary_core.specs.Access.{Agrees};
 

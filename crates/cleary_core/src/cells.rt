@@ -1,3 +1,5 @@
+//! A cell, and the number that it is written as.
+
 ghost use Rattle.std.specs.Prelude.{◌≡◌, ◌+◌, ◌*◌, ◌^◌, ◌<◌, ◌≤◌};
 ghost use Rattle.cleary_core.specs.Cells.{width, Small, mark_of, packed, unpacked};
 

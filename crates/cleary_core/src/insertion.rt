@@ -1,3 +1,5 @@
+//! A key is inserted: where it goes, and what moves for it.
+
 ghost use Rattle.std.specs.Prelude.{◌≡◌, ℕ, ◌+◌, ◌-◌, ◌^◌, ◌<◌, ◌≤◌, List, length, MatchBool, MatchResult, ⊤};
 ghost use Rattle.cleary_core.specs.Access.{Agrees};
 ghost use Rattle.cleary_core.specs.Answers.{Tells, Answered};

@@ -1,3 +1,5 @@
+//! What is read of a run: its ends, its groups, and where a key stands.
+
 ghost use Rattle.std.specs.Prelude.{◌≡◌, ℕ, suc, true, false, ◌+◌, ◌-◌, ◌*◌, ◌<◌, ◌≤◌, List, MatchBool, MatchOption, ⊤};
 ghost use Rattle.cleary_core.specs.Access.{Agrees, Reaches};
 ghost use Rattle.cleary_core.specs.Cells.{width, IsRegion, Small, cell_at, word_count};

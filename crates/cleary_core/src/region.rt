@@ -1,3 +1,5 @@
+//! A region, and its calls.
+
 ghost use Rattle.std.specs.Prelude.{◌≡◌, ℕ, ◌+◌, ◌-◌, ◌*◌, ◌^◌, ◌<◌, ◌≤◌, List, length, MatchBool, MatchResult, ⊤};
 ghost use Rattle.cleary_core.specs.Access.{Agrees};
 ghost use Rattle.cleary_core.specs.Answers.{Tells, TellsFlags, Decides, DecidesFlags, Answered, StayWithout, flagged};

@@ -1,3 +1,5 @@
+//! Regions of three profiles on worked cases, also over words that remember what was reached.
+
 ghost use Rattle.std.specs.Prelude.{◌≡◌, ℕ, ◌≤◌, ◌<◌, ◌^◌, List, length, slice_index};
 ghost use Rattle.cleary_core.specs.Cells.{sizes_of, word_count};
 ghost use Rattle.cleary_core.specs.Map.{Key, KeepsMap};
@@ -66,10 +68,10 @@ fn keeps_two_keys<const W: u32, const F: u32>(
     assert!(rt; matches!(region.insert(words, 63, 1), Ok(true)));
     assert!(rt; matches!(region.insert(words, 63, 2), Ok(true)));
     let marks = marks_of(region, words);
-    assert_eq!(rt; marks.occupied, 0b11 << 62);
-    assert_eq!(rt; marks.virgin, 1 << 63);
-    assert_eq!(rt; marks.change, 1 << 63);
-    assert_eq!(rt; region.count(words), 2);
+    assert!(rt; marks.occupied == 0b11 << 62);
+    assert!(rt; marks.virgin == 1 << 63);
+    assert!(rt; marks.change == 1 << 63);
+    assert!(rt; region.count(words) == 2);
     assert!(rt; matches!(region.insert(words, 63, 1), Ok(false)));
     assert!(rt; region.find(words, 63, 1));
     assert!(rt; !region.find(words, 62, 1));
@@ -87,7 +89,7 @@ fn expect_key<const W: u32, const F: u32>(
     requires home { home < region.now.cells }
 {
     assert!(rt; region.find(words, home, quotient));
-    assert_eq!(rt; region.flags(words, home, quotient), flags);
+    assert!(rt; region.flags(words, home, quotient) == flags);
 }
 
 fn expect_no_key<const W: u32, const F: u32>(
@@ -119,9 +121,9 @@ fn keeps_three_keys<const W: u32, const F: u32>(
     assert!(rt; matches!(region.insert(words, 11, 3), Ok(true)));
     let marks = marks_of(region, words);
     assert!(rt; marks.occupied == 0b111 << 9 || marks.occupied == 0b111 << 10);
-    assert_eq!(rt; marks.virgin, 0b11 << 10);
-    assert_eq!(rt; marks.change.count_ones(), 2);
-    assert_eq!(rt; region.count(words), 3);
+    assert!(rt; marks.virgin == 0b11 << 10);
+    assert!(rt; marks.change.count_ones() == 2);
+    assert!(rt; region.count(words) == 3);
     expect_key(rt, region, words, 10, 1, 1);
     expect_key(rt, region, words, 10, 2, 0);
     expect_key(rt, region, words, 11, 3, 0);
@@ -146,34 +148,7 @@ fn fills_up<const W: u32, const F: u32>(rt: &impl Abort, region: &Region<W, F>, 
     }
     assert!(rt; matches!(region.insert(words, 63, 0), Err(RegionFull)));
     assert!(rt; matches!(region.insert(words, 0, 63), Ok(false)));
-    assert_eq!(rt; region.count(words), 64);
-}
-
-#[test]
-fn keeps_keys_of_16_bits(rt: HostRuntime) {
-    let region = Region::<16, 8>::over(6, 6);
-    let mut words = [0u64; 37];
-    keeps_two_keys(&rt, &region, &mut words);
-    keeps_three_keys(&rt, &region, &mut words);
-    fills_up(&rt, &region, &mut words);
-}
-
-#[test]
-fn keeps_keys_of_28_bits(rt: HostRuntime) {
-    let region = Region::<28, 7>::over(6, 6);
-    let mut words = [0u64; 60];
-    keeps_two_keys(&rt, &region, &mut words);
-    keeps_three_keys(&rt, &region, &mut words);
-    fills_up(&rt, &region, &mut words);
-}
-
-#[test]
-fn keeps_keys_of_31_bits(rt: HostRuntime) {
-    let region = Region::<31, 1>::over(24, 6);
-    let mut words = [0u64; 42];
-    keeps_two_keys(&rt, &region, &mut words);
-    keeps_three_keys(&rt, &region, &mut words);
-    fills_up(&rt, &region, &mut words);
+    assert!(rt; region.count(words) == 64);
 }
 
 // Adds a key of home 10 or 11, where only such keys are. Cells of 37 bits: cells 9 to 13 lie in words 5 to 8, cells 10 to 12 in words 5 to 7.
@@ -191,8 +166,8 @@ fn adds_nearby(
 {
     words.forget();
     assert!(rt; matches!(region.insert_in(words, home, quotient), Ok(true)));
-    assert_eq!(rt; words.reached() & !(0b1111 << 5), 0);
-    assert_eq!(rt; words.put() & !(0b111 << 5), 0);
+    assert!(rt; words.reached() & !(0b1111 << 5) == 0);
+    assert!(rt; words.put() & !(0b111 << 5) == 0);
     assert!(rt; words.put() != 0);
 }
 
@@ -205,24 +180,42 @@ fn looks_nearby(rt: &impl Abort, region: &Region<16, 8>, words: &mut Recorder)
     assert!(rt; matches!(region.insert_in(words, 10, 2), Ok(false)));
     assert!(rt; region.find_in(words, 11, 3));
     assert!(rt; !region.find_in(words, 12, 3));
-    assert_eq!(rt; words.reached() & !(0b1111 << 5), 0);
-    assert_eq!(rt; words.put(), 0);
+    assert!(rt; words.reached() & !(0b1111 << 5) == 0);
+    assert!(rt; words.put() == 0);
     region.set_flags_in(words, 10, 1, 255);
-    assert_eq!(rt; region.flags_in(words, 10, 1), 255);
-    assert_eq!(rt; region.flags_in(words, 10, 2), 0);
+    assert!(rt; region.flags_in(words, 10, 1) == 255);
+    assert!(rt; region.flags_in(words, 10, 2) == 0);
     // Cell 40 lies in word 23, and is the home of no key.
     words.forget();
     assert!(rt; !region.find_in(words, 40, 1));
-    assert_eq!(rt; words.reached(), 1 << 23);
+    assert!(rt; words.reached() == 1 << 23);
 }
 
-#[test]
-fn reaches_the_words_of_one_run(rt: HostRuntime) {
+// Keys of one run over words that remember what was reached.
+fn reaches_one_run(rt: &impl Abort) {
     let region = Region::<16, 8>::over(6, 6);
     let mut words = Recorder::new();
     clear(&region, &mut words.words);
-    adds_nearby(&rt, &region, &mut words, 10, 1);
-    adds_nearby(&rt, &region, &mut words, 10, 2);
-    adds_nearby(&rt, &region, &mut words, 11, 3);
-    looks_nearby(&rt, &region, &mut words);
+    adds_nearby(rt, &region, &mut words, 10, 1);
+    adds_nearby(rt, &region, &mut words, 10, 2);
+    adds_nearby(rt, &region, &mut words, 11, 3);
+    looks_nearby(rt, &region, &mut words);
+}
+
+// The cases of a region of 64 cells.
+fn keeps_keys<const W: u32, const F: u32>(rt: &impl Abort, region: &Region<W, F>, words: &mut [u64])
+    requires words { length words.old ≡ word_count region.now }
+    requires sizes { (region.now.cells ≡ 64) × (64 ≤ 2 ^ region.now.quotient) × (2 ≤ 2 ^ region.now.flags) }
+{
+    keeps_two_keys(rt, region, words);
+    keeps_three_keys(rt, region, words);
+    fills_up(rt, region, words);
+}
+
+#[test]
+fn keeps_keys_of_three_profiles(rt: HostRuntime) {
+    keeps_keys(&rt, &Region::<16, 8>::over(6, 6), &mut [0u64; 37]);
+    keeps_keys(&rt, &Region::<28, 7>::over(6, 6), &mut [0u64; 60]);
+    keeps_keys(&rt, &Region::<31, 1>::over(24, 6), &mut [0u64; 42]);
+    reaches_one_run(&rt);
 }

@@ -1,3 +1,5 @@
+//! Cells are written: one alone, and those that move over by one.
+
 ghost use Rattle.std.specs.Prelude.{◌≡◌, ◌≢◌, ◌⊎◌, ℕ, suc, true, ◌+◌, ◌-◌, ◌*◌, ◌^◌, ◌<◌, ◌≤◌, length, slice_index, slice_set};
 ghost use Rattle.cleary_core.specs.Access.{Reaches};
 ghost use Rattle.cleary_core.specs.Cells.{width, IsRegion, Small, cell_at, word_count, carried};

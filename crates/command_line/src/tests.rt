@@ -1,67 +1,104 @@
+//! Lists of words with what they choose, and the sizes of tables, each worked out by hand.
+
+ghost use Rattle.std.specs.Prelude.{IfOk};
+ghost use Rattle.command_line.specs.Valid.{IsValid};
+
 use crate::{Choice, ChoiceError, Job, Mode, USAGE, choose, sizes};
 use std::alloc::{AllocError, Global};
 use std::test::Fail;
 
-// What `insert` alone chooses.
-const DEFAULTS: Choice = Choice {
-    job: Job::Insert,
-    mode: Mode::Plain,
-    profile: 28,
-    workers: 1,
-    block: 64,
-    nodes: None,
-    roots: None,
-    region: None,
-    probe: 4194304,
-    stats: false,
-    lines: 1000,
-    slots: 8,
-    values: 4,
-    seed: 1,
-};
+// The names of a choice's values, and those that `insert` alone chooses: a word by its place among the words that stand
+// there, from 0, and a size that isn't given as 0.
+const NAMES: &str =
+    "job mode profile workers block nodes roots region probe stats lines slots values seed";
 
-// The words that the text has between bars, with the program's name.
+const DEFAULTS: [u64; 14] = [0, 0, 28, 1, 64, 0, 0, 0, 4194304, 0, 1000, 8, 4, 1];
+
+// The words that the text has between bars, with the program's name; none where it is empty.
 fn words_of(alloc: Global, text: &str) -> Result<Vec<String>, AllocError> {
     let mut words = Vec::new(alloc);
+    if text.is_empty() {
+        return Ok(words);
+    }
     for word in text.split('|') {
         words.push(String::from_str(alloc, word)?)?;
     }
     Ok(words)
 }
 
-// The choice with one value changed.
-fn changed(choice: Choice, name: &str, text: &str) -> Result<Choice, Fail> {
-    let mut choice = choice;
-    match (name, text) {
-        ("job", "distinct") => choice.job = Job::Distinct,
-        ("job", "bench") => choice.job = Job::Bench,
-        ("mode", "compact") => choice.mode = Mode::Compact,
-        ("profile", number) => choice.profile = number.parse::<u32>()?,
-        ("workers", number) => choice.workers = number.parse::<u64>()?,
-        ("block", number) => choice.block = number.parse::<u64>()?,
-        ("nodes", number) => choice.nodes = Some(number.parse::<u32>()?),
-        ("roots", number) => choice.roots = Some(number.parse::<u32>()?),
-        ("region", number) => choice.region = Some(number.parse::<u32>()?),
-        ("probe", number) => choice.probe = number.parse::<u64>()?,
-        ("stats", "on") => choice.stats = true,
-        ("lines", number) => choice.lines = number.parse::<u64>()?,
-        ("slots", number) => choice.slots = number.parse::<usize>()?,
-        ("values", number) => choice.values = number.parse::<u64>()?,
-        ("seed", number) => choice.seed = number.parse::<u64>()?,
-        _ => return Err(Fail::from("no such value")),
+// What the words choose.
+fn chosen(alloc: Global, text: &str) -> Result<Result<Choice, ChoiceError>, AllocError>
+    ensures { IfOk result (λ chosen. IfOk chosen IsValid) }
+{
+    let words = words_of(alloc, text)?;
+    Ok(choose(alloc, &words))
+}
+
+// The value that a text writes.
+fn value_of(text: &str) -> Result<u64, Fail> {
+    match text {
+        "distinct" | "compact" | "on" => Ok(1),
+        "bench" => Ok(2),
+        _ => Ok(text.parse::<u64>()?),
     }
-    Ok(choice)
+}
+
+// The values with one of them changed.
+fn changed(values: [u64; 14], name: &str, value: u64) -> Result<[u64; 14], Fail> {
+    let mut values = values;
+    for (i, other) in NAMES.split(' ').enumerate() {
+        if i < 14 && other == name {
+            values[i] = value;
+            return Ok(values);
+        }
+    }
+    Err(Fail::from("no such value"))
 }
 
 // The defaults with the values changed that the text lists, as `mode compact`, between commas.
-fn expected(text: &str) -> Result<Choice, Fail> {
-    let mut choice = DEFAULTS;
+fn expected(text: &str) -> Result<[u64; 14], Fail> {
+    let mut values = DEFAULTS;
     for change in text.split(',') {
         if let Some((name, value)) = change.split_once(' ') {
-            choice = changed(choice, name, value)?;
+            values = changed(values, name, value_of(value)?)?;
         }
     }
-    Ok(choice)
+    Ok(values)
+}
+
+fn job_of(choice: &Choice) -> u64 {
+    match choice.job {
+        Job::Insert => 0,
+        Job::Distinct => 1,
+        Job::Bench => 2,
+    }
+}
+
+fn size_of(size: Option<u32>) -> u64 {
+    match size {
+        Some(size) => size as u64,
+        None => 0,
+    }
+}
+
+// The values of a choice, in the order of their names.
+fn values_of(choice: &Choice) -> [u64; 14] {
+    [
+        job_of(choice),
+        u64::from(choice.mode == Mode::Compact),
+        choice.profile as u64,
+        choice.workers,
+        choice.block,
+        size_of(choice.nodes),
+        size_of(choice.roots),
+        size_of(choice.region),
+        choice.probe,
+        u64::from(choice.stats),
+        choice.lines,
+        choice.slots as u64,
+        choice.values,
+        choice.seed,
+    ]
 }
 
 // Words that are taken, and what they change of the defaults.
@@ -117,16 +154,12 @@ treedb|insert|--mode|compact|--profile|16|--stats => mode compact,profile 16,sta
 treedb|insert|--mode|compact|--workers|8|--block|1 => mode compact,workers 8,block 1
 treedb|bench|--lines|100000|--slots|32|--values|4|--seed|1|--workers|8 => job bench,lines 100000,slots 32,workers 8";
 
-#[test]
-fn takes_the_words(rt: HostRuntime) -> Result<(), Fail> {
-    let alloc = rt.alloc();
-    for row in TAKEN.lines() {
-        let (text, changes) = row.split_once(" => ").ok_or("no words")?;
-        let words = words_of(alloc, text)?;
-        let want = expected(changes)?;
-        assert_eq!(rt; choose(alloc, &words), Ok(want), "{text}");
-    }
-    Ok(())
+fn is_taken(alloc: Global, row: &str) -> Result<bool, Fail> {
+    let (text, changes) = row.split_once(" => ").ok_or("no words")?;
+    let Ok(choice) = chosen(alloc, text)? else {
+        return Ok(false);
+    };
+    Ok(values_of(&choice).as_slice() == expected(changes)?.as_slice())
 }
 
 // Words that are refused.
@@ -199,20 +232,8 @@ treedb|insert|--values|0
 treedb|bench|--values|65537
 treedb|bench|--seed|18446744073709551616";
 
-#[test]
-fn refuses_the_words(rt: HostRuntime) -> Result<(), Fail> {
-    let alloc = rt.alloc();
-    for text in REFUSED.lines() {
-        let words = words_of(alloc, text)?;
-        assert_eq!(rt; choose(alloc, &words), Err(ChoiceError::Usage), "{text}");
-    }
-    let none = Vec::new(alloc);
-    assert_eq!(rt;
-        choose(alloc, &none),
-        Err(ChoiceError::Usage),
-        "no word at all"
-    );
-    Ok(())
+fn is_refused(alloc: Global, text: &str) -> Result<bool, AllocError> {
+    Ok(matches!(chosen(alloc, text)?, Err(ChoiceError::Usage)))
 }
 
 // Words of a choice, slots, lines, and then the sizes of nodes, roots and regions.
@@ -249,31 +270,38 @@ treedb|insert|--region|12; 2; 1; 3 3 12
 treedb|insert|--profile|16|--nodes|16|--roots|24|--region|6|--probe|5; 10; 100; 16 24 6
 treedb|insert|--nodes|25; 2; 1; 25 3 3";
 
-#[test]
-fn sizes_the_tables(rt: HostRuntime) -> Result<(), Fail> {
-    let alloc = rt.alloc();
-    for row in SIZES.lines() {
-        let (text, rest) = row.split_once("; ").ok_or("no words")?;
-        let (slots, rest) = rest.split_once("; ").ok_or("no slots")?;
-        let (lines, want) = rest.split_once("; ").ok_or("no lines")?;
-        let words = words_of(alloc, text)?;
-        let Ok(choice) = choose(alloc, &words) else {
-            return Err(Fail::from("no choice"));
-        };
-        let found = sizes(&choice, slots.parse::<usize>()?, lines.parse::<u64>()?);
-        let written = format!(in alloc; "{} {} {}", found.nodes, found.roots, found.region)?;
-        assert_eq!(rt; written.as_str(), want, "{row}");
-        assert_eq!(rt; found.probe, choice.probe, "{row}");
-    }
-    Ok(())
+fn has_sizes(alloc: Global, row: &str) -> Result<bool, Fail> {
+    let (text, rest) = row.split_once("; ").ok_or("no words")?;
+    let (slots, rest) = rest.split_once("; ").ok_or("no slots")?;
+    let (lines, want) = rest.split_once("; ").ok_or("no lines")?;
+    let Ok(choice) = chosen(alloc, text)? else {
+        return Ok(false);
+    };
+    let found = sizes(&choice, slots.parse::<usize>()?, lines.parse::<u64>()?);
+    let written = format!(in alloc; "{} {} {}", found.nodes, found.roots, found.region)?;
+    Ok(written.as_str() == want && found.probe == choice.probe)
 }
 
-#[test]
-fn tells_the_usage(rt: HostRuntime) {
-    let want = "\
+// The usage text.
+const TOLD: &str = "\
 usage: treedb insert|distinct|bench [--mode plain|compact] [--profile 16|28|31]
   [--workers N] [--block N] [--nodes D] [--roots R] [--region S] [--probe P]
   [--stats] [--lines N] [--slots K] [--values M] [--seed S]
 ";
-    assert_eq!(rt; USAGE.as_bytes(), want.as_bytes());
+
+#[test]
+fn words_sizes_and_usage(rt: HostRuntime) -> Result<(), Fail> {
+    let alloc = rt.alloc();
+    for row in TAKEN.lines() {
+        assert!(rt; is_taken(alloc, row)?, "{row}");
+    }
+    for row in REFUSED.lines() {
+        assert!(rt; is_refused(alloc, row)?, "{row}");
+    }
+    assert!(rt; is_refused(alloc, "")?);
+    for row in SIZES.lines() {
+        assert!(rt; has_sizes(alloc, row)?, "{row}");
+    }
+    assert!(rt; USAGE == TOLD);
+    Ok(())
 }

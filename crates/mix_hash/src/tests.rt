@@ -1,11 +1,12 @@
-// Hashes and places computed outside, from the five steps alone.
+//! Hashes and places computed outside, from the five steps alone.
+
 use super::{
     FIRST_MULTIPLIER, Place, SECOND_MULTIPLIER, fold, mix, mix_is_one_to_one, scale, split, unmix,
     unsplit,
 };
 
 // A packed pair of two parts of 16 bits, and what each of the five steps makes of it.
-const ROWS: [[u32; 6]; 6] = [
+static STEPS: [[u32; 6]; 6] = [
     [
         0x0000_0000,
         0x0000_0000,
@@ -56,85 +57,71 @@ const ROWS: [[u32; 6]; 6] = [
     ],
 ];
 
+fn steps_are(row: [u32; 6]) -> bool {
+    let [packed, first, second, third, fourth, hash] = row;
+    fold::<16>(packed as u64) == first as u64
+        && scale::<16>(first as u64, FIRST_MULTIPLIER) == second as u64
+        && fold::<16>(second as u64) == third as u64
+        && scale::<16>(third as u64, SECOND_MULTIPLIER) == fourth as u64
+        && mix::<16>(packed as u64) == hash as u64
+        && unmix::<16>(hash as u64) == packed as u64
+}
+
+// Packed pairs of two parts of 28 bits, and of 31, with their hashes.
+static WIDER: [[u64; 2]; 4] = [
+    [0x0000_0000_0000_0001, 0x0003_EFFC_90A5_693B],
+    [0x0000_0000_3000_0005, 0x00B6_5305_CC39_286C],
+    [0x00FF_FFFF_FFFF_FFFF, 0x00F3_6D86_4C4F_53B7],
+    [0x0012_3456_789A_BCDE, 0x0057_5A2C_AF0B_5F0F],
+];
+
+static WIDEST: [[u64; 2]; 4] = [
+    [0x0000_0000_0000_0001, 0x0110_1C0B_374E_FC79],
+    [0x0000_0001_8000_0005, 0x02F6_89E5_04FC_3F54],
+    [0x3FFF_FFFF_FFFF_FFFF, 0x1C78_9AB2_AB88_BEB6],
+    [0x1234_5678_9ABC_DEF0, 0x09C9_16E8_5136_B953],
+];
+
+fn hashes_28(row: [u64; 2]) -> bool {
+    let [packed, hash] = row;
+    if packed >= 0x0100_0000_0000_0000 || hash >= 0x0100_0000_0000_0000 {
+        return false;
+    }
+    mix::<28>(packed) == hash && unmix::<28>(hash) == packed
+}
+
+fn hashes_31(row: [u64; 2]) -> bool {
+    let [packed, hash] = row;
+    if packed >= 0x4000_0000_0000_0000 || hash >= 0x4000_0000_0000_0000 {
+        return false;
+    }
+    mix::<31>(packed) == hash && unmix::<31>(hash) == packed
+}
+
+// Whether a place has this region, home and quotient.
+fn is_place(place: &Place, region: u64, home: u64, quotient: u64) -> bool {
+    place.region == region && place.home == home && place.quotient == quotient
+}
+
 #[test]
-fn hashes_pairs_of_16_bits(rt: HostRuntime) {
+fn hashes_and_places(rt: HostRuntime) {
     mix_is_one_to_one::<16>();
-    for [packed, first, second, third, fourth, hash] in ROWS {
-        assert_eq!(rt; fold::<16>(packed as u64), first as u64);
-        assert_eq!(rt; scale::<16>(first as u64, FIRST_MULTIPLIER), second as u64);
-        assert_eq!(rt; fold::<16>(second as u64), third as u64);
-        assert_eq!(rt; scale::<16>(third as u64, SECOND_MULTIPLIER), fourth as u64);
-        assert_eq!(rt; mix::<16>(packed as u64), hash as u64);
-        assert_eq!(rt; unmix::<16>(hash as u64), packed as u64);
+    for i in 0..STEPS.len() {
+        assert!(rt; steps_are(STEPS[i]), "steps {i}");
     }
-}
-
-#[test]
-fn hashes_wider_pairs(rt: HostRuntime) {
-    let rows: [(u64, u64); 4] = [
-        (0x0000_0000_0000_0001, 0x0003_EFFC_90A5_693B),
-        (0x0000_0000_3000_0005, 0x00B6_5305_CC39_286C),
-        (0x00FF_FFFF_FFFF_FFFF, 0x00F3_6D86_4C4F_53B7),
-        (0x0012_3456_789A_BCDE, 0x0057_5A2C_AF0B_5F0F),
-    ];
-    for (packed, hash) in rows {
-        assert!(rt; packed < 0x0100_0000_0000_0000 && hash < 0x0100_0000_0000_0000);
-        assert_eq!(rt; mix::<28>(packed), hash);
-        assert_eq!(rt; unmix::<28>(hash), packed);
+    for i in 0..WIDER.len() {
+        assert!(rt; hashes_28(WIDER[i]) && hashes_31(WIDEST[i]), "wider {i}");
     }
-    let rows: [(u64, u64); 4] = [
-        (0x0000_0000_0000_0001, 0x0110_1C0B_374E_FC79),
-        (0x0000_0001_8000_0005, 0x02F6_89E5_04FC_3F54),
-        (0x3FFF_FFFF_FFFF_FFFF, 0x1C78_9AB2_AB88_BEB6),
-        (0x1234_5678_9ABC_DEF0, 0x09C9_16E8_5136_B953),
-    ];
-    for (packed, hash) in rows {
-        assert!(rt; packed < 0x4000_0000_0000_0000 && hash < 0x4000_0000_0000_0000);
-        assert_eq!(rt; mix::<31>(packed), hash);
-        assert_eq!(rt; unmix::<31>(hash), packed);
-    }
-}
-
-#[test]
-fn cuts_hashes(rt: HostRuntime) {
-    let place = split::<16>(0xBD1B_A1B0, 6, 6);
-    assert_eq!(rt;
-        place,
-        Place {
-            region: 0,
-            home: 48,
-            quotient: 49_573_510
-        }
-    );
-    assert_eq!(rt; unsplit::<16>(&place, 6, 6), 0xBD1B_A1B0);
-    let place = split::<16>(0xBD1B_A1B0, 24, 12);
-    assert_eq!(rt;
-        place,
-        Place {
-            region: 442,
-            home: 432,
-            quotient: 189
-        }
-    );
-    assert_eq!(rt; unsplit::<16>(&place, 24, 12), 0xBD1B_A1B0);
-    let place = split::<28>(0x00B6_5305_CC39_286C, 24, 12);
-    assert_eq!(rt;
-        place,
-        Place {
-            region: 914,
-            home: 2156,
-            quotient: 3_058_894_284
-        }
-    );
-    assert_eq!(rt; unsplit::<28>(&place, 24, 12), 0x00B6_5305_CC39_286C);
-    let place = split::<31>(0x02F6_89E5_04FC_3F54, 20, 10);
-    assert_eq!(rt;
-        place,
-        Place {
-            region: 783,
-            home: 852,
-            quotient: 203_618_668_623
-        }
-    );
-    assert_eq!(rt; unsplit::<31>(&place, 20, 10), 0x02F6_89E5_04FC_3F54);
+    let small = split::<16>(0xBD1B_A1B0, 6, 6);
+    assert!(rt; is_place(&small, 0, 48, 49_573_510));
+    assert!(rt; unsplit::<16>(&small, 6, 6) == 0xBD1B_A1B0);
+    let large = split::<16>(0xBD1B_A1B0, 24, 12);
+    assert!(rt; is_place(&large, 442, 432, 189));
+    assert!(rt; unsplit::<16>(&large, 24, 12) == 0xBD1B_A1B0);
+    let wider = split::<28>(0x00B6_5305_CC39_286C, 24, 12);
+    assert!(rt; is_place(&wider, 914, 2156, 3_058_894_284));
+    assert!(rt; unsplit::<28>(&wider, 24, 12) == 0x00B6_5305_CC39_286C);
+    let widest = split::<31>(0x02F6_89E5_04FC_3F54, 20, 10);
+    assert!(rt; is_place(&widest, 783, 852, 203_618_668_623));
+    assert!(rt; unsplit::<31>(&widest, 20, 10) == 0x02F6_89E5_04FC_3F54);
 }

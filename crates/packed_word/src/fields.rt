@@ -1,3 +1,5 @@
+//! Bit fields in words: a field may begin in one word and end in the next.
+
 ghost use Rattle.std.specs.Prelude.{◌≡◌, ℕ, ◌+◌, ◌-◌, ◌*◌, ◌^◌, ◌<◌, ◌≤◌, length};
 ghost use Rattle.std.specs.Int.{bit_at};
 ghost use Rattle.packed_word.specs.Slice.{bit, field, IsApart};

@@ -1,3 +1,5 @@
+//! The word of a bucket: a pair, its flags, and the present bit.
+
 ghost use Rattle.std.specs.Prelude.{◌≡◌, ℕ, ◌+◌, ◌-◌, ◌*◌, ◌/◌, ◌%◌, ◌^◌, ◌<◌, ◌≤◌, ◌↔◌, IsTrue};
 ghost use Rattle.std.specs.Int.{bit_at};
 ghost use Rattle.packed_word.specs.Word.{IsLayout, right_of, left_of, flags_of, IsPresent, pair_of};

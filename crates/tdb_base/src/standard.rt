@@ -1,3 +1,5 @@
+//! Sources and sinks over std's readers and writers.
+
 ghost use Rattle.std.specs.Prelude.{◌≡◌, ◌<◌, true, length, is_err, IfOk, if◌then◌else◌};
 ghost use Rattle.std.specs.Io.{ReadsAtMost, WritesAtMost};
 ghost use Rattle.std.specs.Io.KnownBytes.{ReadConsumes, WriteAppends, Keeps};

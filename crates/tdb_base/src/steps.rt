@@ -1,3 +1,5 @@
+//! Where the steps of an insertion are counted, or not.
+
 ghost use Rattle.std.specs.Prelude.{◌≡◌, ℕ, Option, Some, None, option_map};
 ghost use Rattle.tdb_base.specs.Fakes.{counted};
 

@@ -1,3 +1,5 @@
+//! Marks on the inner positions above a slot.
+
 ghost use Rattle.std.specs.Prelude.{◌≡◌, ℕ, ◌+◌, ◌-◌, ◌*◌, ◌/◌, ◌^◌, ◌<◌, ◌≤◌, ◌↔◌, ◌⊎◌, length};
 ghost use Rattle.tree_shape.specs.Positions.{IsAbove};
 ghost use Rattle.tree_shape.specs.Changed.{IsMarked, marked_count};

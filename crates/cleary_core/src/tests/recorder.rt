@@ -1,4 +1,5 @@
-// The words of a region of 64 cells of 37 bits, which remember the places that were reached.
+//! The words of a region of 64 cells of 37 bits, which remember the places that were reached.
+
 ghost use Rattle.std.specs.Prelude.{◌≡◌, ◌<◌, ℕ, List, length, slice_index};
 ghost use Rattle.cleary_core.specs.Map.{Key, KeepsMap};
 ghost use Rattle.cleary_core.specs.Cells.{sizes_of};

@@ -1,9 +1,11 @@
+//! What the sinks in memory take, write by write.
+
 use super::{MemSink, Sink, SureSink};
 use crate::tests::takes;
 use std::test::Fail;
 
 #[test]
-fn a_full_sink_fails(rt: HostRuntime) -> Result<(), Fail> {
+fn sinks_take_what_fits_and_fail_when_full(rt: HostRuntime) -> Result<(), Fail> {
     let alloc = rt.alloc();
     let mut sink = MemSink::new(alloc, 3, vec![in alloc; 2u64]?, 2)?;
     takes(&rt, &mut sink, b"abcd", Some(2));
@@ -17,16 +19,13 @@ fn a_full_sink_fails(rt: HostRuntime) -> Result<(), Fail> {
     takes(&rt, &mut sink, b"", Some(0));
     assert!(rt; sink.settled);
     assert!(rt; sink.bytes() == b"abc".as_slice());
-    Ok(())
-}
 
-#[test]
-fn a_sure_sink_takes_everything(rt: HostRuntime) {
-    let mut sink = SureSink::new();
-    takes(&rt, &mut sink, b"", Some(0));
-    assert!(rt; sink.settled);
-    takes(&rt, &mut sink, b"abc", Some(3));
-    assert!(rt; !sink.settled);
-    assert!(rt; sink.finish().is_ok());
-    assert!(rt; sink.settled);
+    let mut sure = SureSink::new();
+    takes(&rt, &mut sure, b"", Some(0));
+    assert!(rt; sure.settled);
+    takes(&rt, &mut sure, b"abc", Some(3));
+    assert!(rt; !sure.settled);
+    assert!(rt; sure.finish().is_ok());
+    assert!(rt; sure.settled);
+    Ok(())
 }

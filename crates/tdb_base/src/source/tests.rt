@@ -1,9 +1,11 @@
+//! What the sources in memory give, read by read.
+
 use super::{MemSource, SureSource};
 use crate::tests::gives;
 use std::test::Fail;
 
 #[test]
-fn a_failed_read_takes_no_byte(rt: HostRuntime) -> Result<(), Fail> {
+fn sources_give_what_fits_and_fail_without_a_byte(rt: HostRuntime) -> Result<(), Fail> {
     let alloc = rt.alloc();
     let mut source = MemSource::new(b"12345".to_vec(alloc)?, vec![in alloc; 3u64]?, 2);
     gives(&rt, &mut source, 8, Some(b"12"));
@@ -14,15 +16,17 @@ fn a_failed_read_takes_no_byte(rt: HostRuntime) -> Result<(), Fail> {
     gives(&rt, &mut source, 8, Some(b"45"));
     gives(&rt, &mut source, 8, Some(b""));
     assert!(rt; source.faults == 1);
-    Ok(())
-}
 
-#[test]
-fn a_sure_source_gives_what_fits(rt: HostRuntime) -> Result<(), Fail> {
-    let mut source = SureSource::new(b"123".to_vec(rt.alloc())?);
-    gives(&rt, &mut source, 0, Some(b""));
-    gives(&rt, &mut source, 2, Some(b"12"));
-    gives(&rt, &mut source, 8, Some(b"3"));
-    gives(&rt, &mut source, 8, Some(b""));
+    let mut listed = MemSource::new(b"3,5\n".to_vec(alloc)?, vec![in alloc; 3u64]?, 2);
+    gives(&rt, &mut listed, 8, Some(b"3,"));
+    gives(&rt, &mut listed, 8, Some(b"5\n"));
+    gives(&rt, &mut listed, 8, None);
+    gives(&rt, &mut listed, 8, Some(b""));
+
+    let mut sure = SureSource::new(b"123".to_vec(alloc)?);
+    gives(&rt, &mut sure, 0, Some(b""));
+    gives(&rt, &mut sure, 2, Some(b"12"));
+    gives(&rt, &mut sure, 8, Some(b"3"));
+    gives(&rt, &mut sure, 8, Some(b""));
     Ok(())
 }

@@ -1,3 +1,5 @@
+//! A reader and a writer of std that fail are counted as faults.
+
 use super::{StdSink, StdSource};
 use crate::Sink;
 use crate::tests::{gives, takes};
