@@ -1,4 +1,4 @@
-// The loops of measure_nodes over the yardstick's table: 2^19 pairs into 2^20 buckets, by so many threads; prints microseconds.
+// The loops of `measure nodes` over the yardstick's table: 2^19 pairs into 2^20 buckets, by so many threads; prints microseconds.
 #include "store.hpp"
 #include <cstdio>
 #include <cstdlib>

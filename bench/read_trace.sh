@@ -7,14 +7,14 @@ rounds=${ROUNDS:-3}
 
 make -s -C "$yard" OUT="$out" "$out/tracegen" "$out/limits"
 make -s -C "$yard" OUT="$out" "$out/rustcsv" 2> /dev/null || echo "without Rust's csv crate: it was not built" >&2
-(cd crates/measure && rt run -- read-trace 1 < stdin > /dev/null 2>&1)
+build_measure
 trace=$out/walk-64MB
 [ -s "$trace" ] || "$out/tracegen" walk 4000000 8 10 1 > "$trace"
 
 log=$(mktemp)
 trap 'rm -f "$log"' EXIT
 for ((i = 0; i < rounds; i++)); do
-  crates/measure/out/measure read-trace 2 < "$trace" 2>&1 | awk '{ print "read_trace", $(NF - 1) / 1000 }'
+  "$measure" read-trace 2 < "$trace" 2>&1 | awk '{ print "read_trace", $(NF - 1) / 1000 }'
   "$out/limits" --quick "$trace" | awk '/^parse-/ { print $1, $(NF - 1) }'
   [ ! -x "$out/rustcsv" ] || "$out/rustcsv" < "$trace" | awk '{ print $1, $5 }'
 done >> "$log"

@@ -1,4 +1,4 @@
-// The yardstick's region on the keys that crates/measure_region draws: nanoseconds in all for insertions into an empty region, for searches for
+// The yardstick's region on the keys that `measure region` draws: nanoseconds in all for insertions into an empty region, for searches for
 // keys that are there, and for others. Arguments: S, FILL in percent, ROUNDS.
 #include <chrono>
 #include <cstdio>

@@ -5,14 +5,14 @@ source "$(dirname "${BASH_SOURCE[0]}")/setup.sh"
 rounds=${ROUNDS:-3}
 
 g++ -O3 -march=x86-64-v3 -std=c++17 -I"$yard" bench/region.cpp -o "$out/region"
-(cd crates/measure_region && rt run > /dev/null 2>&1)
+build_measure
 
 echo "$(nproc) cores, load $(cut -d' ' -f1 /proc/loadavg), best of $rounds rounds; nanoseconds a call, and ours / theirs"
 printf '%4s %5s  %-22s %-22s %-22s\n' s fill insert 'find, present' 'find, absent'
 for s in 6 8 12; do
   for fill in 25 50 75 90; do
     for ((i = 0; i < rounds; i++)); do
-      crates/measure_region/out/measure_region "$s" "$fill" 1 2>&1 | sed 's/^/ours /'
+      "$measure" region "$s" "$fill" 1 2>&1 | sed 's/^/ours /'
       "$out/region" "$s" "$fill" 1 2>&1 | sed 's/^/theirs /'
     done | awk -v s="$s" -v fill="$fill" '
       { for (i = 3; i <= 7; i += 2) if (!(($1, i) in low) || $i < low[$1, i]) low[$1, i] = $i; seen[$1] = $NF }

@@ -4,3 +4,9 @@ cd "$(dirname "${BASH_SOURCE[0]}")/.."
 yard=../shared/yardstick
 out=${TMPDIR:-/tmp}/treedb-yardstick
 mkdir -p "$out"
+measure=$PWD/crates/measure/out/measure
+
+# proves and builds the program that times the parts, where it has changed
+build_measure() {
+  (cd crates/measure && rt run -- nodes 3 1 > /dev/null 2>&1)
+}

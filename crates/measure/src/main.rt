@@ -1,48 +1,87 @@
-//! Times parts of the store on what standard input gives, and prints the times to standard error.
-//!
-//! `measure read-trace [TRIES]` reads standard input to its end and then reads it as a trace, so many times (5, where none is said).
+//! Times parts of the store, and prints the times to standard error: `USAGE` has the words.
 #![tactic(auto)]
 
-use std::process::ExitCode;
-use std::time::Instant;
-use std::{env, io};
-use tdb_base::StdSource;
-use trace_csv::{read_all, read_trace};
+mod clock;
+mod nodes;
+mod read_trace;
+mod region;
+mod words;
 
-const WIDTH: u32 = 28;
+use std::process::ExitCode;
+use std::thread::Threads;
+use std::{env, io};
+use words::{USAGE, number};
 
 fn main(rt: HostRuntime) -> io::Result<ExitCode> {
-    let alloc = rt.alloc();
-    let tries = tries_of(&rt)?;
-    let Ok(bytes) = read_all(alloc, &mut StdSource::new(rt.reader())) else {
-        eprintln!(rt; "measure: the input was not read")?;
-        return Ok(ExitCode::from(1));
-    };
-    for _ in 0..tries {
-        let start = Instant::now(&rt)?;
-        let read = read_trace(alloc, &bytes, WIDTH);
-        let took = start.elapsed(&rt)?;
-        let Ok(trace) = read else {
-            eprintln!(rt; "measure: the input is no trace")?;
-            return Ok(ExitCode::from(1));
-        };
-        eprintln!(rt;
-            "read-trace {} bytes, {} lines of {} slots: {} ms",
-            bytes.len(),
-            trace.len(),
-            trace.slots(),
-            took.as_millis()
-        )?;
+    let mut words = Vec::new(rt.alloc());
+    for word in env::args(&rt)? {
+        words.push(word)?;
     }
-    Ok(ExitCode::from(0))
-}
-
-// How many times to measure: the second word after the program's name.
-fn tries_of(rt: &HostRuntime) -> io::Result<u32> {
-    for (i, word) in env::args(rt)?.enumerate() {
-        if i == 2 {
-            return Ok(word.parse().unwrap_or(5));
+    match time(&rt, &rt, &words)? {
+        Some(status) => Ok(status),
+        None => {
+            eprintln!(rt; "{}", USAGE)?;
+            Ok(ExitCode::from(2))
         }
     }
-    Ok(5)
+}
+
+// Times what the words ask for, the program's name first. None: they ask for nothing.
+fn time<H: Threads + Sync>(
+    rt: &HostRuntime,
+    crew: &H,
+    words: &[String],
+) -> io::Result<Option<ExitCode>> {
+    let Some(part) = words.get(1) else {
+        return Ok(None);
+    };
+    match part.as_str() {
+        "read-trace" => time_read_trace(rt, words),
+        "nodes" => time_nodes(rt, crew, words),
+        "region" => time_region(rt, words),
+        _ => Ok(None),
+    }
+}
+
+fn time_read_trace(rt: &HostRuntime, words: &[String]) -> io::Result<Option<ExitCode>> {
+    let Some(tries) = number(words, 2, 1, 1000, 5) else {
+        return Ok(None);
+    };
+    if words.len() > 3 {
+        return Ok(None);
+    }
+    Ok(Some(read_trace::time(rt, tries)?))
+}
+
+fn time_nodes<H: Threads + Sync>(
+    rt: &HostRuntime,
+    crew: &H,
+    words: &[String],
+) -> io::Result<Option<ExitCode>> {
+    let Some(exponent) = number(words, 2, 3, 25, 20) else {
+        return Ok(None);
+    };
+    let Some(threads) = number(words, 3, 1, 64, 1) else {
+        return Ok(None);
+    };
+    if words.len() > 4 {
+        return Ok(None);
+    }
+    Ok(Some(nodes::time(rt, crew, exponent as u32, threads)?))
+}
+
+fn time_region(rt: &HostRuntime, words: &[String]) -> io::Result<Option<ExitCode>> {
+    let Some(exponent) = number(words, 2, 6, 12, 6) else {
+        return Ok(None);
+    };
+    let Some(fill) = number(words, 3, 0, 100, 50) else {
+        return Ok(None);
+    };
+    let Some(rounds) = number(words, 4, 1, 1000, 1) else {
+        return Ok(None);
+    };
+    if words.len() > 5 {
+        return Ok(None);
+    }
+    Ok(Some(region::time(rt, exponent as u32, fill, rounds)?))
 }

@@ -1,16 +1,14 @@
-//! Times a region's calls on drawn keys, and prints nanoseconds a call to standard error.
-//!
-//! `measure_region [S [FILL [ROUNDS]]]`: regions of `2^S` cells of 42 bits (6), filled to so many percent of their keys (50), each so many times (1).
-#![tactic(auto)]
+//! Times a region's calls on drawn keys.
 
 ghost use Rattle.std.specs.Prelude.{◌≡◌, ℕ, ◌<◌, ◌≤◌, ◌^◌, List, length, slice_index};
 ghost use Rattle.cleary_core.specs.Cells.{word_count};
 ghost use Rattle.cleary_core.specs.Map.{Key, KeepsMap};
 
+use crate::clock::nanoseconds_since;
 use cleary_core::{Region, laws};
+use std::io;
 use std::process::ExitCode;
 use std::time::Instant;
-use std::{env, io};
 
 // A table of 2^24 roots of pairs of 28 bits with 7 flags.
 type Measured = Region<28, 7>;
@@ -87,7 +85,8 @@ fn fill(region: &Measured, words: &mut [u64], cells: u64, keys: Keys) -> u64
     added
 }
 
-// How many of the keys are there. The seed is moved by `off`, which is 0 and isn't known to be: so no two searches are known to be the same.
+// How many of the keys are there. The seed is moved by `off`, which is 0 and isn't known to be: so no two
+// searches are known to be the same.
 fn look(region: &Measured, words: &[u64], cells: u64, keys: Keys, off: u64) -> u64
     requires words { length words.now ≡ word_count region.now }
     requires sizes { (cells ≡ region.now.cells) × (0 < cells) }
@@ -131,7 +130,7 @@ fn time_calls(
     for _ in 0..REPEATS {
         sum = sum.wrapping_add(fill(region, words, cells, keys));
     }
-    let insert = nanoseconds(rt, &start)?;
+    let insert = nanoseconds_since(rt, &start)?;
     let start = Instant::now(rt)?;
     let mut off = 0u64;
     for _ in 0..REPEATS {
@@ -139,7 +138,7 @@ fn time_calls(
         off = off.wrapping_add(found).wrapping_sub(keys.count);
         sum = sum.wrapping_add(found);
     }
-    let present = nanoseconds(rt, &start)?;
+    let present = nanoseconds_since(rt, &start)?;
     let others = Keys {
         high: 1 << 31,
         ..keys
@@ -150,7 +149,7 @@ fn time_calls(
         off = off.wrapping_add(look(region, words, cells, others, off));
     }
     sum = sum.wrapping_add(off);
-    let absent = nanoseconds(rt, &start)?;
+    let absent = nanoseconds_since(rt, &start)?;
     Ok(Times {
         insert: before.insert.wrapping_add(insert),
         present: before.present.wrapping_add(present),
@@ -159,17 +158,16 @@ fn time_calls(
     })
 }
 
-fn nanoseconds(rt: &HostRuntime, start: &Instant) -> io::Result<u64> {
-    Ok(u64::try_from(start.elapsed(rt)?.as_nanos()).unwrap_or(u64::MAX))
-}
-
-fn main(rt: HostRuntime) -> io::Result<ExitCode> {
-    let s = number_of(&rt, 1, 6)?.clamp(6, 12) as u32;
-    let percent = number_of(&rt, 2, 50)?.min(100);
-    let rounds = number_of(&rt, 3, 1)?;
-    let region = Measured::over(ROOTS, s);
+/// Regions of `2^exponent` cells of 42 bits, filled to so many percent of their keys, each so many times: prints
+/// the nanoseconds of all calls.
+pub fn time(rt: &HostRuntime, exponent: u32, percent: u64, rounds: u64) -> io::Result<ExitCode>
+    requires sizes { (6 ≤ exponent) × (exponent ≤ 12) }
+    requires percent { percent ≤ 100 }
+{
+    let region = Measured::over(ROOTS, exponent);
     let mut words = vec![in rt.alloc(); 0u64; region.words()]?;
-    let times = time_rounds(&rt, &region, words.as_mut_slice(), 1 << s, percent, rounds)?;
+    let words = words.as_mut_slice();
+    let times = time_rounds(rt, &region, words, 1 << exponent, percent, rounds)?;
     eprintln!(rt;
         "insert {} present {} absent {} ns, sum {}",
         times.insert, times.present, times.absent, times.sum
@@ -207,14 +205,4 @@ fn time_rounds(
         }
     }
     Ok(times)
-}
-
-// The number that stands at this place after the program's name, or another.
-fn number_of(rt: &HostRuntime, place: usize, otherwise: u64) -> io::Result<u64> {
-    for (i, word) in env::args(rt)?.enumerate() {
-        if i == place {
-            return Ok(word.parse().unwrap_or(otherwise));
-        }
-    }
-    Ok(otherwise)
 }

@@ -1,7 +1,7 @@
 use Rattle.std.proofs.Common.{◌≡◌, List, length}
 use Rattle.cleary_core.specs.Cells.{word_count}
 use Rattle.cleary_core.specs.Map.{Key, KeepsMap}
-use Rattle.measure_region.proofs.fill.Given as goal
+use Rattle.measure.proofs.region.fill.Given as goal
 
 abbrev pub invariant-loop : goal.invariant-loop
 invariant-loop l = record {

@@ -1,0 +1,189 @@
+//! Times the shared table of pairs, without roots.
+
+ghost use Rattle.std.specs.Prelude.{◌≡◌, ◌≤◌, ◌<◌, ◌^◌, All, IfOk};
+ghost use Rattle.measure.specs.Nodes.{Rests};
+
+use crate::clock::nanoseconds_since;
+use pair_nodes::Nodes;
+use pair_rule::{NoRoot, PairTable, Pass, PassOf, Sizes};
+use std::alloc::Global;
+use std::process::ExitCode;
+use std::thread::Threads;
+use std::time::Instant;
+use std::{io, thread};
+use tdb_base::{NoMemory, Silent, Steps};
+
+type Table = PairTable<NoRoot, 28, 7>;
+
+// How many pairs are put.
+const PAIRS: u64 = 1 << 19;
+
+// A caller, the pairs that are its share, and for how many of its calls the table was full.
+#[derive(Drop)]
+struct Caller {
+    pass: PassOf<()>,
+    from: u64,
+    to: u64,
+    full: u64,
+}
+
+// Finds or puts the pairs with these numbers; answers how often the table was full.
+fn put_all(nodes: &Nodes<NoRoot, 28, 7>, pass: &mut Pass<NoRoot, 28, 7>, from: u64, to: u64) -> u64
+    requires { Rests nodes.now.table.table.shared.table_id nodes.now.table.about pass.old }
+    ensures { Rests nodes.now.table.table.shared.table_id nodes.now.table.about pass.new }
+{
+    let mut steps = Steps::new(Silent);
+    let mut full = 0u64;
+    for number in from..to {
+        let (left, right) = (number >> 9 & 0xFFFFF, number & 0x1FF);
+        if nodes.find_or_put(pass, left, right, &mut steps).is_err() {
+            full = full.saturating_add(1);
+        }
+    }
+    full
+}
+
+// Each caller its share, or all of the pairs, in a thread of its own.
+fn put_shares<H: Threads + Sync>(
+    crew: &H,
+    nodes: &Nodes<NoRoot, 28, 7>,
+    callers: &mut [Caller],
+    all: bool,
+)
+    requires { All (λ c. Rests nodes.now.table.table.shared.table_id nodes.now.table.about c.pass) callers.old }
+    ensures { All (λ c. Rests nodes.now.table.table.shared.table_id nodes.now.table.about c.pass) callers.new }
+{
+    let count = callers.len();
+    if count > 0 {
+        thread::for_each_mut(
+            crew,
+            callers,
+            count,
+            &|_, caller: &mut Caller|
+                requires { Rests nodes.now.table.table.shared.table_id nodes.now.table.about caller.now.pass }
+                ensures { Rests nodes.entry.now.table.table.shared.table_id nodes.entry.now.table.about caller.exit.now.pass }
+            {
+                let (from, to) = if all {
+                    (0, PAIRS)
+                } else {
+                    (caller.from, caller.to)
+                };
+                caller.full = put_all(nodes, &mut caller.pass, from, to);
+            },
+        );
+    }
+}
+
+// So many callers, to each its share of the pairs.
+fn split_callers(
+    alloc: Global,
+    nodes: &Nodes<NoRoot, 28, 7>,
+    pass: &mut Pass<NoRoot, 28, 7>,
+    count: u64,
+) -> Result<Vec<Caller>, NoMemory>
+    requires count { (1 ≤ count) × (count ≤ 64) }
+    requires rest { Rests nodes.now.table.table.shared.table_id nodes.now.table.about pass.old }
+    ensures callers { IfOk result (λ v. All (λ c. Rests nodes.now.table.table.shared.table_id nodes.now.table.about c.pass) v.items) }
+{
+    let table = &nodes.table;
+    let share = PAIRS / count;
+    let mut callers = Vec::new(alloc);
+    for number in 0..count {
+        let pass = table.split(alloc, pass)?;
+        callers.push(Caller {
+            pass,
+            from: number * share,
+            to: number * share + share,
+            full: 0,
+        })?;
+    }
+    Ok(callers)
+}
+
+/// Makes a table of `2^exponent` buckets, and prints how long that took; then so many threads put pairs into a
+/// table, and each looks all of them up.
+pub fn time<H: Threads + Sync>(
+    rt: &HostRuntime,
+    crew: &H,
+    exponent: u32,
+    threads: u64,
+) -> io::Result<ExitCode>
+    requires exponent { (3 ≤ exponent) × (exponent ≤ 25) }
+    requires threads { (1 ≤ threads) × (threads ≤ 64) }
+{
+    time_create(rt, exponent)?;
+    match time_pairs(rt, crew, threads) {
+        Ok((put, found, 0)) => eprintln!(rt;
+            "{} pairs by {} threads: put {} us, found by each {} us",
+            PAIRS, threads, put, found
+        )?,
+        Ok((_, _, full)) => eprintln!(rt; "measure: full for {} pairs", full)?,
+        Err(NoMemory) => eprintln!(rt; "measure: no memory")?,
+    }
+    Ok(ExitCode::from(0))
+}
+
+// Microseconds for the making of a table of 2^exponent buckets.
+fn time_create(rt: &HostRuntime, exponent: u32) -> io::Result<()>
+    requires { (3 ≤ exponent) × (exponent ≤ 25) }
+{
+    let sizes = sizes_of(exponent);
+    let start = Instant::now(rt)?;
+    let made = Table::create(rt.alloc(), &sizes, 16);
+    let took = nanoseconds_since(rt, &start)? / 1000;
+    match made {
+        Ok(_) => eprintln!(rt; "create 2^{} buckets: {} us", exponent, took),
+        Err(NoMemory) => eprintln!(rt; "measure: no memory"),
+    }
+}
+
+fn sizes_of(nodes: u32) -> Sizes
+    ensures { result ≡ record { nodes = nodes; roots = 3; region = 6; probe = 4194304 } }
+{
+    Sizes {
+        nodes,
+        roots: 3,
+        region: 6,
+        probe: 4_194_304,
+    }
+}
+
+// Microseconds for the pairs put by the threads together, and for all of them looked up by each; and for how many
+// of these the table was full.
+fn time_pairs<H: Threads + Sync>(
+    rt: &HostRuntime,
+    crew: &H,
+    threads: u64,
+) -> Result<(u64, u64, u64), NoMemory>
+    requires { (1 ≤ threads) × (threads ≤ 64) }
+{
+    let (table, mut pass) = Table::create(rt.alloc(), &sizes_of(20), 16)?;
+    let nodes = Nodes::over(table);
+    let mut callers = split_callers(rt.alloc(), &nodes, &mut pass, threads)?;
+    let put = timed(rt, crew, &nodes, callers.as_mut_slice(), false);
+    let found = timed(rt, crew, &nodes, callers.as_mut_slice(), true);
+    let mut full = 0u64;
+    for caller in &callers {
+        full = full.saturating_add(caller.full);
+    }
+    Ok((put, found, full))
+}
+
+// Microseconds for one round of all callers.
+fn timed<H: Threads + Sync>(
+    rt: &HostRuntime,
+    crew: &H,
+    nodes: &Nodes<NoRoot, 28, 7>,
+    callers: &mut [Caller],
+    all: bool,
+) -> u64
+    requires { All (λ c. Rests nodes.now.table.table.shared.table_id nodes.now.table.about c.pass) callers.old }
+    ensures { All (λ c. Rests nodes.now.table.table.shared.table_id nodes.now.table.about c.pass) callers.new }
+{
+    let start = Instant::now(rt);
+    put_shares(crew, nodes, callers, all);
+    match start {
+        Ok(start) => nanoseconds_since(rt, &start).unwrap_or(0) / 1000,
+        Err(_) => 0,
+    }
+}
