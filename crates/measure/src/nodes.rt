@@ -1,7 +1,8 @@
 //! Times the shared table of pairs, without roots.
 
 ghost use Rattle.std.specs.Prelude.{◌≡◌, ◌≤◌, ◌<◌, ◌^◌, All, IfOk};
-ghost use Rattle.measure.specs.Nodes.{Rests};
+ghost use Rattle.pair_rule.specs.Rest.{AtRest};
+ghost use Rattle.pair_rule.specs.NoRoots.{no_roots};
 
 use crate::clock::nanoseconds_since;
 use pair_nodes::Nodes;
@@ -29,8 +30,8 @@ struct Caller {
 
 // Finds or puts the pairs with these numbers; answers how often the table was full.
 fn put_all(nodes: &Nodes<NoRoot, 28, 7>, pass: &mut Pass<NoRoot, 28, 7>, from: u64, to: u64) -> u64
-    requires { Rests nodes.now.table.table.shared.table_id nodes.now.table.about pass.old }
-    ensures { Rests nodes.now.table.table.shared.table_id nodes.now.table.about pass.new }
+    requires { AtRest no_roots nodes.now pass.old }
+    ensures { AtRest no_roots nodes.now pass.new }
 {
     let mut steps = Steps::new(Silent);
     let mut full = 0u64;
@@ -50,8 +51,8 @@ fn put_shares<H: Threads + Sync>(
     callers: &mut [Caller],
     all: bool,
 )
-    requires { All (λ c. Rests nodes.now.table.table.shared.table_id nodes.now.table.about c.pass) callers.old }
-    ensures { All (λ c. Rests nodes.now.table.table.shared.table_id nodes.now.table.about c.pass) callers.new }
+    requires { All (λ c. AtRest no_roots nodes.now c.pass) callers.old }
+    ensures { All (λ c. AtRest no_roots nodes.now c.pass) callers.new }
 {
     let count = callers.len();
     if count > 0 {
@@ -60,8 +61,8 @@ fn put_shares<H: Threads + Sync>(
             callers,
             count,
             &|_, caller: &mut Caller|
-                requires { Rests nodes.now.table.table.shared.table_id nodes.now.table.about caller.now.pass }
-                ensures { Rests nodes.entry.now.table.table.shared.table_id nodes.entry.now.table.about caller.exit.now.pass }
+                requires { AtRest no_roots nodes.now caller.now.pass }
+                ensures { AtRest no_roots nodes.entry.now caller.exit.now.pass }
             {
                 let (from, to) = if all {
                     (0, PAIRS)
@@ -82,10 +83,10 @@ fn split_callers(
     count: u64,
 ) -> Result<Vec<Caller>, NoMemory>
     requires count { (1 ≤ count) × (count ≤ 64) }
-    requires rest { Rests nodes.now.table.table.shared.table_id nodes.now.table.about pass.old }
-    ensures callers { IfOk result (λ v. All (λ c. Rests nodes.now.table.table.shared.table_id nodes.now.table.about c.pass) v.items) }
+    requires rest { AtRest no_roots nodes.now pass.old }
+    ensures callers { IfOk result (λ v. All (λ c. AtRest no_roots nodes.now c.pass) v.items) }
 {
-    let table = &nodes.table;
+    let table = nodes.table();
     let share = PAIRS / count;
     let mut callers = Vec::new(alloc);
     for number in 0..count {
@@ -177,8 +178,8 @@ fn timed<H: Threads + Sync>(
     callers: &mut [Caller],
     all: bool,
 ) -> u64
-    requires { All (λ c. Rests nodes.now.table.table.shared.table_id nodes.now.table.about c.pass) callers.old }
-    ensures { All (λ c. Rests nodes.now.table.table.shared.table_id nodes.now.table.about c.pass) callers.new }
+    requires { All (λ c. AtRest no_roots nodes.now c.pass) callers.old }
+    ensures { All (λ c. AtRest no_roots nodes.now c.pass) callers.new }
 {
     let start = Instant::now(rt);
     put_shares(crew, nodes, callers, all);

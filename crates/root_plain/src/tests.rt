@@ -145,6 +145,7 @@ fn two_threads_agree(rt: HostRuntime) -> Result<(), Fail> {
             ),
             StorePass,
         )
+            requires width { store.about.width ≡ 16 }
             requires slots { store.about.slots ≡ 2 }
             requires rest { AtRest plain store first }
             ensures { AtRest plain store result.1 }
@@ -160,6 +161,7 @@ fn two_threads_agree(rt: HostRuntime) -> Result<(), Fail> {
             ),
             StorePass,
         )
+            requires width { store.about.width ≡ 16 }
             requires slots { store.about.slots ≡ 2 }
             requires rest { AtRest plain store second }
             ensures { AtRest plain store result.1 }

@@ -1,5 +1,6 @@
-use Rattle.measure.specs.Nodes.{Rests}
+use Rattle.pair_rule.specs.Rest.{AtRest}
+use Rattle.pair_rule.specs.NoRoots.{no_roots}
 use Rattle.measure.proofs.nodes.put_all.Given as goal
 
 abbrev pub invariant-loop-number : goal.invariant-loop-number
-invariant-loop-number l = Rests l.nodes.table.table.shared.table_id l.nodes.table.about l.pass
+invariant-loop-number l = AtRest no_roots l.nodes l.pass

@@ -1,13 +1,16 @@
 use Rattle.std.proofs.Common.{subst, sym}
 use Rattle.std.specs.Prelude.{All}
 use Rattle.std.proofs.lemmas.List.Elements.{All-push}
-use Rattle.measure.specs.Nodes.{Rests}
+use Rattle.pair_rule.specs.Part.{Store}
+use Rattle.pair_rule.specs.Rest.{AtRest}
+use Rattle.pair_rule.specs.NoRoots.{no_roots}
 use Rattle.measure.proofs.nodes.split_callers.Goals as goal
 
 pub loop-number-preserved : goal.loop-number-preserved
 loop-number-preserved c =
-    let P = λ (x : Rattle.measure.specs.declared.nodes.Caller.Caller). Rests c.args.nodes.now.table.table.shared.table_id c.args.nodes.now.table.about x.pass in
+    let P = λ (x : Rattle.measure.specs.declared.nodes.Caller.Caller). AtRest no_roots c.args.nodes.now x.pass in
+    let here : (pass : _) → AtRest no_roots c.table-table.result.now pass → AtRest no_roots c.args.nodes.now pass = λ pass. subst (λ (s : Store). AtRest no_roots s pass) c.table-table.ensures.table in
     record {
-      rest = c.split.ensures.rest;
-      callers = subst (λ l. All P l) (sym c.in_ok-push.ensures.items) (All-push P c.loop-number.callers.items _ c.loop-number.invariant.callers c.in_ok-pass.ensures.new_rest);
+      rest = here c.split.new.pass c.in_ok-pass.ensures.split.rest;
+      callers = subst (λ l. All P l) (sym c.in_ok-push.ensures.items) (All-push P c.loop-number.callers.items _ c.loop-number.invariant.callers (here _ c.in_ok-pass.ensures.split.child_rest));
     }

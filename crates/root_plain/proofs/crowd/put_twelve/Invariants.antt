@@ -5,6 +5,7 @@ use Rattle.root_plain.proofs.crowd.put_twelve.Given as goal
 
 abbrev pub invariant-loop-turn : goal.invariant-loop-turn
 invariant-loop-turn l = record {
-  slots : l.store.table.about.slots ≡ 2;
+  width : l.store.about.width ≡ 16;
+  slots : l.store.about.slots ≡ 2;
   rest : AtRest plain l.store l.pass;
 }
