@@ -4,6 +4,7 @@ pub mod EachLemmas
 pub mod FewLines
 pub mod FieldLemmas
 pub mod InputLemmas
+pub mod OneReportLemmas
 pub mod OutputLemmas
 pub mod PageLemmas
 pub mod PiecesLemmas

@@ -1,6 +1,7 @@
 pub mod Direct
 pub mod Fields
 pub mod Input
+pub mod OneReport
 pub mod Output
 pub mod Page
 pub mod Pieces

@@ -9,6 +9,7 @@ mod direct;
 mod field;
 mod input;
 pub mod laws;
+mod one_report;
 mod output;
 mod page;
 mod read;
@@ -21,6 +22,7 @@ mod walk;
 mod whole_text;
 
 pub use input::{InError, read_all};
+pub use one_report::one_report_of_replies;
 pub use output::WriteFault;
 pub use read::read_trace;
 pub use refusal::TraceError;

@@ -1,0 +1,8 @@
+//! That a report tells its replies, as the contract of a function that does nothing.
+
+ghost use Rattle.trace_csv.specs.OneReport.{OneReport};
+
+/// Two lists of replies with one report are equal, whatever their summaries, where numbers have 64 bits.
+pub fn one_report_of_replies()
+    ensures { OneReport }
+{}
