@@ -149,3 +149,13 @@ named-reads text middle rest id true reply fits is e more =
 named-reads text middle rest id false reply fits is e more =
     subst (λ (p : Reply). HasWordId p × (text ≡ answer p ++ rest)) (sym is)
     (fits, e ∙ ap (λ (t : List ℕ). number_to 44 id ++ t) more ∙ sym (append_assoc (number_to 44 id) (codes "seen\n") rest) ∙ ap (λ (t : List ℕ). t ++ rest) (sym (seen-word id)))
+
+-- the same words, written in another way
+module _ {A : Type 0} (word other : A → List ℕ) (fits : A → Type 0) (text : List ℕ) where
+  pub misses-same : (fault : Fault) → ((a : A) → other a ≡ word a) → Misses word fits text fault → Misses other fits text fault
+  misses-same f.Short same misses = (misses.0, misses.1, within-same text (other misses.0) (word misses.0) (same misses.0) misses.2)
+  misses-same f.Wrong same misses = λ a fit. differs-same text (other a) (word a) (same a) (misses a fit)
+
+  pub reads-same : (result : Result (A × Bor (List ℕ)) Fault) → ((a : A) → other a ≡ word a) → Reads word fits text result → Reads other fits text result
+  reads-same (Ok r) same reads = (reads.0, reads.1 ∙ ap (λ (t : List ℕ). t ++ r.1.now) (sym (same r.0)))
+  reads-same (Err fault) same reads = misses-same fault same reads

@@ -3,7 +3,7 @@ use Rattle.std.specs.Prelude.{◌≡◌, ◌≤◌, ◌<◌, ◌+◌, ◌^◌, �
 use Rattle.std.specs.List.{concat}
 use Rattle.tdb_base.specs.declared.reply.Reply.{Reply}
 use Rattle.trace_csv.specs.OneReport.{HasWordId}
-use Rattle.trace_csv.specs.Report.{report, summary_of}
+use Rattle.trace_csv.specs.Report.{report, summary_of, summary_text}
 use Rattle.trace_csv.specs.declared.report.Stats.{Stats}
 
 -- the counts of a store are numbers of 64 bits, where they are told
@@ -49,3 +49,7 @@ pub record IsWrongAt (lines : ℕ) (bytes : List ℕ) (n : ℕ) : Type 0 where
   pub none : (replies : List Reply) → IsReportOf lines bytes replies → ⊥
   pub before : (m : ℕ) → m < n → BeginsReport lines (to_line m bytes)
   pub here : ((1 ≤ n) × (n ≤ length (text_lines bytes)) × (BeginsReport lines (to_line n bytes) → ⊥)) ⊎ (n ≡ length (text_lines bytes) + 1)
+
+-- the summary of so many lines, of which so many are new, with or without the counts of a store
+abbrev pub IsSummary : ℕ → ℕ → List ℕ → Type 0
+IsSummary lines distinct text = (stats : Option Stats) × FitWords stats × (text ≡ summary_text (record { lines = lines; distinct = distinct; stats = stats }))
