@@ -93,8 +93,10 @@ summary-short lines distinct text counts (b ∷ rest) first second none = absurd
 pub summary-long : (lines distinct nodes store plain : ℕ) (text counts stats stored raw end : List ℕ) → IsWord nodes → IsWord store → IsWord plain
     → text ≡ named_line (codes "lines ") lines ++ counts → counts ≡ named_line (codes "distinct ") distinct ++ stats → stats ≡ named_line (codes "nodes ") nodes ++ stored
     → stored ≡ named_line (codes "stored ") store ++ raw → raw ≡ named_line (codes "raw ") plain ++ end → length end ≡ 0 → IsSummary lines distinct text
-summary-long lines distinct nodes store plain text counts stats stored raw [] one two three first second third fourth fifth none =
-    (Some (record { nodes = nodes; stored = store; raw = plain }), record { nodes = one; stored = two; raw = three },
-     first ∙ ap (λ (t : List ℕ). named_line (codes "lines ") lines ++ t) (second ∙ ap (λ (t : List ℕ). named_line (codes "distinct ") distinct ++ t) (third
-     ∙ ap (λ (t : List ℕ). named_line (codes "nodes ") nodes ++ t) (fourth ∙ ap (λ (t : List ℕ). named_line (codes "stored ") store ++ t) (fifth ∙ append-nil (named_line (codes "raw ") plain))))))
+summary-long lines distinct nodes store plain text counts stats stored raw [] one two three first second third fourth fifth none = (
+  Some (record { nodes = nodes; stored = store; raw = plain }),
+  record { nodes = one; stored = two; raw = three },
+  first ∙ ap (λ (t : List ℕ). named_line (codes "lines ") lines ++ t) (second ∙ ap (λ (t : List ℕ). named_line (codes "distinct ") distinct ++ t) (third
+      ∙ ap (λ (t : List ℕ). named_line (codes "nodes ") nodes ++ t) (fourth ∙ ap (λ (t : List ℕ). named_line (codes "stored ") store ++ t) (fifth ∙ append-nil (named_line (codes "raw ") plain))))),
+)
 summary-long lines distinct nodes store plain text counts stats stored raw (b ∷ rest) one two three first second third fourth fifth none = absurd (omega arith)

@@ -93,7 +93,7 @@ concat-lines (b ∷ t) = by (b == 10) refl (concat-lines t)
     by false e more = rw e (before-line-whole b (text_lines t) ∙ ap (λ (s : List ℕ). b ∷ s) more)
 
 pub concat-append : (xs ys : List (List ℕ)) → concat (xs ++ ys) ≡ concat xs ++ concat ys
-concat-append xs ys = concat_is (xs ++ ys) ∙ flat_map-append (λ (x : List ℕ). x) xs ys ∙ sym (ap (λ (t : List ℕ). t ++ flat_map (λ (x : List ℕ). x) ys) (concat_is xs) ∙ ap (λ (t : List ℕ). flat_map (λ (x : List ℕ). x) xs ++ t) (concat_is ys)) 
+concat-append xs ys = concat_is (xs ++ ys) ∙ flat_map-append (λ (x : List ℕ). x) xs ys ∙ sym (ap (λ (t : List ℕ). t ++ flat_map (λ (x : List ℕ). x) ys) (concat_is xs) ∙ ap (λ (t : List ℕ). flat_map (λ (x : List ℕ). x) xs ++ t) (concat_is ys))
 
 -- the bytes to the end of a line, and what follows
 pub to-line-rest : (m : ℕ) (bytes : List ℕ) → to_line m bytes ++ concat (drop m (text_lines bytes)) ≡ bytes

@@ -23,8 +23,17 @@ at-none lines = record {
   lines_read = lines-none;
   from = λ t replies whole. record { rest = replies; count = (let count = whole.count in omega arith); fit = whole.fit; stats = whole.stats; stats_fit = whole.stats_fit; text = whole.text };
   to = λ t goes. (goes.rest, record { count = (let count = goes.count in omega arith); fit = goes.fit; stats = goes.stats; stats_fit = goes.stats_fit; text = goes.text });
-  some = (reply_lines 0 all ++ summary_text (summary_of all None), record { rest = all; count = (let count = length-replicate lines r.FullNodes in omega arith);
-      fit = All-replicate HasWordId lines r.FullNodes tt; stats = None; stats_fit = tt; text = refl });
+  some = (
+    reply_lines 0 all ++ summary_text (summary_of all None),
+    record {
+      rest = all;
+      count = (let count = length-replicate lines r.FullNodes in omega arith);
+      fit = All-replicate HasWordId lines r.FullNodes tt;
+      stats = None;
+      stats_fit = tt;
+      text = refl;
+    },
+  );
 }
   where
     all : List Reply
@@ -119,9 +128,10 @@ line-some text some = by text some (first-line text)
         let one = lines-last b t none in
         (let count = ap length one in omega arith, let size = ap (λ (ls : List (List ℕ)). length (concat (take 1 ls))) one in omega arith)
     by (b ∷ t) some (inr has) =
-        let one = ap text_lines has.3 ∙ lines-word has.0 has.1 has.2 in
-        (let count = ap length one in omega arith,
-         let size = ap (λ (ls : List (List ℕ)). length (concat (take 1 ls))) one ∙ ap length (append-nil (has.0 ++ 10 ∷ [])) ∙ length-append has.0 (10 ∷ []) in omega arith)
+        let one = ap text_lines has.3 ∙ lines-word has.0 has.1 has.2 in (
+          let count = ap length one in omega arith,
+          let size = ap (λ (ls : List (List ℕ)). length (concat (take 1 ls))) one ∙ ap length (append-nil (has.0 ++ 10 ∷ [])) ∙ length-append has.0 (10 ∷ []) in omega arith,
+        )
 
 -- nothing may follow, and something does
 pub past-end : (lines k : ℕ) (bytes text : List ℕ) → Left lines k bytes text IsOver → 0 < length text → IsWrongAt lines bytes (k + 1)

@@ -182,16 +182,20 @@ reply-step lines done less few = record {
     split t goes (reply ∷ rest) e =
         let fit = subst (λ (ps : List Reply). All HasWordId ps) e goes.fit in
         let text = goes.text ∙ ap (λ (ps : List Reply). reply_lines (length done) ps ++ summary_text (summary_of (done ++ ps) goes.stats)) e
-            ∙ lines-cons (length done) reply rest (summary_text (summary_of (done ++ reply ∷ rest) goes.stats)) in
-        (reply, reply_lines (length done + 1) rest ++ summary_text (summary_of (done ++ reply ∷ rest) goes.stats), All-head HasWordId reply rest fit, text,
-         record {
-           rest = rest;
-           count = (let all = ap length e in let count = goes.count in let one = size reply in omega arith);
-           fit = All-tail HasWordId reply rest fit;
-           stats = goes.stats;
-           stats_fit = goes.stats_fit;
-           text = sym (same reply rest goes.stats);
-         })
+        ∙ lines-cons (length done) reply rest (summary_text (summary_of (done ++ reply ∷ rest) goes.stats)) in (
+          reply,
+          reply_lines (length done + 1) rest ++ summary_text (summary_of (done ++ reply ∷ rest) goes.stats),
+          All-head HasWordId reply rest fit,
+          text,
+          record {
+            rest = rest;
+            count = (let all = ap length e in let count = goes.count in let one = size reply in omega arith);
+            fit = All-tail HasWordId reply rest fit;
+            stats = goes.stats;
+            stats_fit = goes.stats_fit;
+            text = sym (same reply rest goes.stats);
+          },
+        )
 
     join : (reply : Reply) (y : List ℕ) → HasWordId reply → Follows lines (done ++ reply ∷ []) y → Follows lines done (reply_line (length done + 1) reply ++ y)
     join reply y fits goes = record {
@@ -206,12 +210,14 @@ reply-step lines done less few = record {
 
     more : (reply : Reply) → HasWordId reply → (y : List ℕ) × Follows lines (done ++ reply ∷ []) y
     more reply fits =
-        let rest = replicate (lines - (length done + 1)) r.FullNodes in
-        (reply_lines (length (done ++ reply ∷ [])) rest ++ summary_text (summary_of ((done ++ reply ∷ []) ++ rest) None), record {
-          rest = rest;
-          count = (let one = size reply in let count = length-replicate (lines - (length done + 1)) r.FullNodes in omega arith);
-          fit = All-replicate HasWordId (lines - (length done + 1)) r.FullNodes tt;
-          stats = None;
-          stats_fit = tt;
-          text = refl;
-        })
+        let rest = replicate (lines - (length done + 1)) r.FullNodes in (
+          reply_lines (length (done ++ reply ∷ [])) rest ++ summary_text (summary_of ((done ++ reply ∷ []) ++ rest) None),
+          record {
+            rest = rest;
+            count = (let one = size reply in let count = length-replicate (lines - (length done + 1)) r.FullNodes in omega arith);
+            fit = All-replicate HasWordId (lines - (length done + 1)) r.FullNodes tt;
+            stats = None;
+            stats_fit = tt;
+            text = refl;
+          },
+        )

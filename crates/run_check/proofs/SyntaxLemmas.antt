@@ -104,15 +104,17 @@ module _ (lines : ℕ) (front : List ℕ) (k : ℕ) (T : List ℕ → Type 0) (o
             → (0 < length (text_lines (b ∷ rest))) × ((more : List ℕ) → T (to_line 1 (b ∷ rest) ++ more) → ⊥)
         by (inl none) =
             let one = lines-last b rest none in
-            let line : to_line 1 (b ∷ rest) ≡ b ∷ rest = ap (λ (ls : List (List ℕ)). concat (take 1 ls)) one ∙ append-nil (b ∷ rest) in
-            (let count = ap length one in omega arith,
-             λ more goes. (let parts = step.split ((b ∷ rest) ++ more) (omega arith) (subst (λ (p : List ℕ). T (p ++ more)) line goes) in
-             differs parts.0 parts.2 more parts.1 parts.3))
+            let line : to_line 1 (b ∷ rest) ≡ b ∷ rest = ap (λ (ls : List (List ℕ)). concat (take 1 ls)) one ∙ append-nil (b ∷ rest) in (
+              let count = ap length one in omega arith,
+              λ more goes. (let parts = step.split ((b ∷ rest) ++ more) (omega arith) (subst (λ (p : List ℕ). T (p ++ more)) line goes) in
+                  differs parts.0 parts.2 more parts.1 parts.3),
+            )
         by (inr has) =
             let one = ap text_lines has.3 ∙ lines-word has.0 has.1 has.2 in
-            let line : to_line 1 (b ∷ rest) ≡ has.0 ++ 10 ∷ [] = ap (λ (ls : List (List ℕ)). concat (take 1 ls)) one ∙ append-nil (has.0 ++ 10 ∷ []) in
-            (let count = ap length one in omega arith,
-             λ more goes. bad more (subst (λ (p : List ℕ). T (p ++ more)) line goes))
+            let line : to_line 1 (b ∷ rest) ≡ has.0 ++ 10 ∷ [] = ap (λ (ls : List (List ℕ)). concat (take 1 ls)) one ∙ append-nil (has.0 ++ 10 ∷ []) in (
+              let count = ap length one in omega arith,
+              λ more goes. bad more (subst (λ (p : List ℕ). T (p ++ more)) line goes),
+            )
           where
             bad : (more : List ℕ) → T ((has.0 ++ 10 ∷ []) ++ more) → ⊥
             bad more goes =

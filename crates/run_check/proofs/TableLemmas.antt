@@ -109,8 +109,8 @@ module _ (trace : List Vector) (replies : List Reply) (i : ℕ) (key : Key) (slo
           let hash : hash_of key ≡ hash_of other = same-hash trace replies i key other has (subst (λ (n : ℕ). HasKey trace replies n other) last its) (sym kind) in
           subst (λ (h : ℕ). Stands (set slots slot (i + 1)) h line) hash
           (sized (hash_of key) line free.step free.few
-           (ap (λ n. get_or (set slots slot (i + 1)) n 0) (sym free.place) ∙ get_or-set_same slots slot (i + 1) 0 inside ∙ ap (λ n. n + 1) (sym last))
-           (λ t lt. keeps (probe (length slots) (hash_of key) t) (free.before t lt)))
+          (ap (λ n. get_or (set slots slot (i + 1)) n 0) (sym free.place) ∙ get_or-set_same slots slot (i + 1) 0 inside ∙ ap (λ n. n + 1) (sym last))
+          (λ t lt. keeps (probe (length slots) (hash_of key) t) (free.before t lt)))
 
 -- a line that isn't answered new
 pub kept-other : (trace : List Vector) (replies : List Reply) (i : ℕ) (vectors : Bool) (slots : List ℕ) → Kept trace replies i vectors slots → ((key : Key) → HasKey trace replies i key → ⊥)
@@ -129,16 +129,16 @@ kept-other trace replies i vectors slots kept none = record {
 pub is-vector : (trace : List Vector) (replies : List Reply) (line : ℕ) (key : Key) (v : Bor (List ℕ)) (w : Vector) (id : ℕ) → key ≡ k.Vector v → Line trace replies line w (r.New id)
     → (b : Bool) → Decides b (w ≡ v.now) → IsTrue b ↔ HasKey trace replies line key
 is-vector trace replies line key v w id is here b decides = (
-    λ yes. subst (HasKey trace replies line) (sym is) (id, subst (λ (u : Vector). Line trace replies line u (r.New id)) (decides.0 yes) here),
-    λ has. (let it = subst (HasKey trace replies line) is has in decides.1 (line-vector trace replies line w v.now (r.New id) (r.New it.0) here it.1)),
-  )
+  λ yes. subst (HasKey trace replies line) (sym is) (id, subst (λ (u : Vector). Line trace replies line u (r.New id)) (decides.0 yes) here),
+  λ has. (let it = subst (HasKey trace replies line) is has in decides.1 (line-vector trace replies line w v.now (r.New id) (r.New it.0) here it.1)),
+)
 
 pub is-identifier : (trace : List Vector) (replies : List Reply) (line : ℕ) (key : Key) (wanted : ℕ) (w : Vector) (id : ℕ) → key ≡ k.Identifier wanted → Line trace replies line w (r.New id)
     → (b : Bool) → Decides b (id ≡ wanted) → IsTrue b ↔ HasKey trace replies line key
 is-identifier trace replies line key wanted w id is here b decides = (
-    λ yes. subst (HasKey trace replies line) (sym is) (w, subst (λ (n : ℕ). Line trace replies line w (r.New n)) (decides.0 yes) here),
-    λ has. (let it = subst (HasKey trace replies line) is has in decides.1 (new-id id wanted (line-reply trace replies line w it.0 (r.New id) (r.New wanted) here it.1))),
-  )
+  λ yes. subst (HasKey trace replies line) (sym is) (w, subst (λ (n : ℕ). Line trace replies line w (r.New n)) (decides.0 yes) here),
+  λ has. (let it = subst (HasKey trace replies line) is has in decides.1 (new-id id wanted (line-reply trace replies line w it.0 (r.New id) (r.New wanted) here it.1))),
+)
 
 -- the hash of a vector, a slot after a slot
 pub hash-none : ◌≡◌ {A = ℕ} 0 (vector_hash [])
@@ -180,9 +180,10 @@ module _ (trace : List Vector) (replies : List Reply) (key : Key) (slots : List 
           other (subst (λ (n : ℕ). HasKey trace replies n key) same has)
 
   pub place-free : entry ≡ 0 → step < length slots → (i : ℕ) → Kept trace replies i (is_vector key) slots → NoneHas trace replies i key × IsFree slots (hash_of key) slot
-  place-free empty few i kept =
-      (none-at-free trace replies i key slots kept step old.passed (sym here ∙ empty),
-       record { step = step; few = few; place = at; empty = sym value ∙ empty; before = old.filled })
+  place-free empty few i kept = (
+    none-at-free trace replies i key slots kept step old.passed (sym here ∙ empty),
+    record { step = step; few = few; place = at; empty = sym value ∙ empty; before = old.filled },
+  )
 
   pub place-line : entry ≢ 0 → HasKey trace replies (entry - 1) key → (i : ℕ) → Kept trace replies i (is_vector key) slots → (entry - 1 < i) × HasKey trace replies (entry - 1) key
   place-line some has i kept = (kept.within slot (entry - 1) (let same : entry - 1 + 1 ≡ entry = omega arith in sym (same ∙ value)), has)

@@ -1,9 +1,10 @@
--- What is told of a claim as the code has it: a trace, its replies, the found lines, and how lines are dealt out.
+-- What is told of a claim as the code has it: a trace, its replies, found lines, and how lines are dealt out.
 use Rattle.std.specs.Prelude.{◌≡◌, ◌≤◌, ◌<◌, ◌+◌, ◌^◌, ℕ, List, Option, IfSome, MatchOption, length}
 use Rattle.run_check.specs.Index.{Finds}
 use Rattle.run_check.specs.Passing.{AllDone, IsBlocked, IsSound, IsUndone, MayPass, left}
-use Rattle.run_check.specs.Sentences.{AllReached, IsFullNamed, IsLeast, IsLone, IsStuck}
+use Rattle.run_check.specs.Sentences.{AllReached, IsFullNamed, IsLeast, IsLone, IsStuck, IsVerdict}
 use Rattle.run_check.specs.declared.claim.Claim.{Claim}
+use Rattle.run_check.specs.declared.verdict.Verdict.{Verdict}
 
 -- for each line the one with its vector that is answered new is found
 abbrev pub IsReady : Claim → Type 0
@@ -59,3 +60,6 @@ abbrev pub IsFirstStuck : Claim → Option ℕ → Type 0
 IsFirstStuck c o =
     MatchOption o (AllReached c.trace.now c.replies.now c.workers c.block)
     (IsLeast (IsStuck c.trace.now c.replies.now c.workers c.block))
+
+abbrev pub VerdictIn : Claim → Verdict → Type 0
+VerdictIn c = IsVerdict c.trace.now c.replies.now c.workers c.block

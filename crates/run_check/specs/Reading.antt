@@ -1,5 +1,6 @@
 -- What is found at the front of a text, where one of some words is to stand.
-use Rattle.std.specs.Prelude.{◌≡◌, ◌≤◌, ◌<◌, ◌+◌, ◌^◌, ℕ, List, [], ◌∷◌, ◌++◌, Ok, Err, Result, Option, MatchOption, Bool, if◌then◌else◌}
+use Rattle.std.specs.Prelude.{◌≡◌, ◌≤◌, ◌<◌, ◌+◌, ◌^◌, ℕ, Bool, List, [], ◌∷◌, ◌++◌, if◌then◌else◌}
+use Rattle.std.specs.Prelude.{Ok, Err, Result, Option, MatchOption}
 use Rattle.std.specs.Borrow.{Bor}
 use Rattle.std.specs.Fmt.{decimal}
 use Rattle.trace_csv.specs.Report.{named_line}
@@ -20,7 +21,8 @@ Misses {A} word fits text f.Short = (a : A) × fits a × EndsWithin text (word a
 Misses {A} word fits text f.Wrong = (a : A) → fits a → Differs text (word a)
 
 -- the word of a value stands at the front, and the rest follows; or the word of none does
-abbrev pub Reads : {A : Type 0} → (A → List ℕ) → (A → Type 0) → List ℕ → Result (A × Bor (List ℕ)) Fault → Type 0
+abbrev pub Reads : {A : Type 0} → (A → List ℕ) → (A → Type 0) → List ℕ → Result (A × Bor (List ℕ)) Fault
+    → Type 0
 Reads word fits text (Ok r) = fits r.0 × (text ≡ word r.0 ++ r.1.now)
 Reads word fits text (Err fault) = Misses word fits text fault
 

@@ -1,5 +1,6 @@
 -- A hash table of lines that are answered new.
-use Rattle.std.specs.Prelude.{◌≡◌, ◌≢◌, ◌<◌, ◌+◌, ◌*◌, ◌%◌, ◌^◌, ℕ, Bool, true, false, List, Option, Some, None, length, fold, slice_index, slice_set}
+use Rattle.std.specs.Prelude.{◌≡◌, ◌≢◌, ◌<◌, ◌+◌, ◌*◌, ◌%◌, ◌^◌, ℕ, Bool, true, false, List}
+use Rattle.std.specs.Prelude.{Option, Some, None, length, fold, slice_index, slice_set}
 use Rattle.tdb_base.specs.History.{Vector}
 use Rattle.tdb_base.specs.declared.reply.Reply.{Reply}
 use Rattle.tdb_base.specs.declared.reply.Reply.TheVariants as r
@@ -52,10 +53,12 @@ abbrev pub AreWithin : ℕ → List ℕ → Type 0
 AreWithin lines slots = (slot line : ℕ) → slice_index slots slot ≡ line + 1 → line < lines
 
 -- a table has the lines below a number that are answered new, by their vectors or by their identifiers
-pub record Kept (trace : List Vector) (replies : List Reply) (i : ℕ) (vectors : Bool) (slots : List ℕ) : Type 0 where
+pub record Kept (trace : List Vector) (replies : List Reply) (i : ℕ) (vectors : Bool) (slots : List ℕ)
+    : Type 0 where
   pub some : 0 < length slots
   pub within : AreWithin i slots
-  pub there : (line : ℕ) (key : Key) → line < i → HasKey trace replies line key → is_vector key ≡ vectors → Stands slots (hash_of key) line
+  pub there : (line : ℕ) (key : Key) → line < i → HasKey trace replies line key → is_vector key ≡ vectors
+      → Stands slots (hash_of key) line
 
 -- no line below a number has the key
 abbrev pub NoneHas : List Vector → List Reply → ℕ → Key → Type 0
@@ -78,10 +81,16 @@ IsRoom slots hash (p.Free slot) = IsFree slots hash slot
 IsRoom slots hash p.Full = Unit {0}
 
 abbrev pub IsPlaceOf : List Vector → List Reply → ℕ → Key → List ℕ → Place → Type 0
-IsPlaceOf trace replies i key slots place = IsLineOf trace replies i key (line_at place) × IsRoom slots (hash_of key) place
+IsPlaceOf trace replies i key slots place =
+    IsLineOf trace replies i key (line_at place) × IsRoom slots (hash_of key) place
 
 -- a line is put at a free place
 abbrev pub PutAt : List ℕ → Place → ℕ → List ℕ → Type 0
 PutAt old (p.Line other) line new = ⊥
 PutAt old (p.Free slot) line new = new ≡ slice_set old slot (line + 1)
 PutAt old p.Full line new = ⊥
+
+-- what a search in a table finds, where it has the lines below a number
+abbrev pub IsFound : List Vector → List Reply → Key → List ℕ → Place → Type 0
+IsFound trace replies key slots place =
+    (i : ℕ) → Kept trace replies i (is_vector key) slots → IsPlaceOf trace replies i key slots place

@@ -1,7 +1,7 @@
 //! What a report claims of a trace, line by line: which lines are lone, full and named, or never reached.
 
-ghost use Rattle.std.specs.Prelude.{◌≡◌, ◌<◌, ◌≤◌, ◌+◌, ◌↔◌, ◌||◌, ◌≢◌, ◌/◌, ℕ, IsTrue, true, false, IfOk, ◌^◌};
-ghost use Rattle.std.specs.Prelude.{length};
+ghost use Rattle.std.specs.Prelude.{◌≡◌, ◌<◌, ◌≤◌, ◌+◌, ◌↔◌, ◌||◌, ◌≢◌, ◌/◌, ◌^◌, ℕ, true, false};
+ghost use Rattle.std.specs.Prelude.{IfOk, IsTrue, length};
 ghost use Rattle.run_check.specs.Claim.{AllBlockedIn, BlockedIn, FullNamedIn, HasBlock, HasLine, HasNext};
 ghost use Rattle.run_check.specs.Claim.{HasWorkers, IsFirst, IsFirstStuck, IsFirstUndone, IsReady, LoneIn};
 ghost use Rattle.run_check.specs.Claim.{PassesIn, SoundIn, left_in};
@@ -11,7 +11,7 @@ use std::alloc::Global;
 use tdb_base::{NoMemory, Reply};
 use trace_csv::Trace;
 
-// A trace with its replies, for each line the one with its vector that is answered new, and how lines are dealt out.
+// A trace with its replies, for each line the one answered new with its vector, and how lines are dealt out.
 #[derive(Drop)]
 pub(crate) struct Claim<'a> {
     pub(crate) trace: &'a Trace,

@@ -4,7 +4,7 @@ ghost use Rattle.std.specs.Prelude.{◌≡◌, ◌<◌, ◌↔◌, IsTrue, Match
 ghost use Rattle.run_check.specs.Cut.{IsCut, IsWhole};
 ghost use Rattle.run_check.specs.Sentences.{IsLeast};
 
-/// The first place of a line that is `#` alone, with its LF, also within quotes; `None` where there is no such line.
+/// The first place of a line that is `#` alone, with its LF, also within quotes; `None` where there is none.
 ///
 /// The trace is what stands before the place, and the report what stands from two bytes after it.
 pub fn divide(bytes: &[u8]) -> Option<usize>

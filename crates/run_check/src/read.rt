@@ -1,13 +1,12 @@
 //! A report is read back.
 
-ghost use Rattle.std.specs.Prelude.{◌⊎◌, ◌≡◌, ◌≤◌, ◌<◌, ◌+◌, ◌^◌, ℕ, List, IfErr, IfOk, MatchResult, count_by, length};
+ghost use Rattle.std.specs.Prelude.{◌≡◌, ◌≤◌, ◌<◌, ◌+◌, ◌^◌, ℕ, List, IfErr, IfOk, count_by};
 ghost use Rattle.tdb_base.specs.Replies.{is_new};
 ghost use Rattle.tdb_base.specs.declared.reply.Reply.{Reply};
 ghost use Rattle.trace_csv.specs.OneReport.{HasWordId};
 ghost use Rattle.trace_csv.specs.Report.{reply_line};
-ghost use Rattle.run_check.specs.Refusal.{AreRead, ReadsLine, Refuses};
+ghost use Rattle.run_check.specs.Refusal.{AreRead, GivesLine, GivesReplies, ReadsLine, Refuses};
 ghost use Rattle.run_check.specs.Text.{IsReportOf, IsWrongAt};
-ghost use Rattle.run_check.specs.declared.refusal.ReportError.TheVariants as e;
 
 use crate::refusal::{ReportError, wrong_line};
 use crate::reply_line::read_reply_line;
@@ -17,17 +16,18 @@ use tdb_base::Reply;
 
 /// The replies of a report of so many lines, from 1 to 2^24.
 ///
-/// `Ok` is the answer exactly where the bytes are such a report, byte for byte: numbers of 64 bits in decimal without leading zeros, the lines
-/// numbered from 1, the summary with the counts of these replies, the three counts of a store or none, and each line with its LF. `Syntax` tells
-/// the first text line to whose end the bytes begin no such report, or the number after the last one where all of them do. `NoMemory` may come
-/// anywhere.
+/// `Ok` is the answer exactly where the bytes are such a report, byte for byte: the lines numbered from 1,
+/// the summary with the counts of these replies, the three counts of a store or none, all numbers of 64 bits
+/// in decimal without leading zeros, and each line with its LF. `Syntax` tells the first text line to whose
+/// end the bytes begin no such report, or the number after the last one where all of them do. `NoMemory` may
+/// come anywhere.
 pub fn read_report(alloc: Global, bytes: &[u8], lines: u64) -> Result<Vec<Reply>, ReportError>
     requires some { 1 ≤ lines }
     requires few { lines ≤ 2 ^ 24 }
     ensures read { IfOk result (λ replies. IsReportOf lines bytes.now replies.items) }
     ensures refused { IfErr result (Refuses lines bytes.now) }
-    ensures whole { (replies : List Reply) → IsReportOf lines bytes.now replies → MatchResult result (λ v. v.items ≡ replies) (λ error. error ≡ e.NoMemory) }
-    ensures wrong { (n : ℕ) → IsWrongAt lines bytes.now n → MatchResult result (λ _. ⊥) (λ error. (error ≡ e.Syntax n) ⊎ (error ≡ e.NoMemory)) }
+    ensures whole { (r : List Reply) → IsReportOf lines bytes.now r → GivesReplies (λ v. v.items) result r }
+    ensures wrong { (n : ℕ) → IsWrongAt lines bytes.now n → GivesLine result n }
 {
     read(alloc, bytes, lines)
 }

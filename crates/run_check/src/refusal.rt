@@ -9,7 +9,8 @@ use thiserror::Error;
 /// Why bytes are no report of a trace's lines.
 #[derive(Clone, Copy, Debug, PartialEq, Eq, Drop, Error)]
 pub enum ReportError {
-    /// The first text line, from 1, to whose end the bytes begin no such report; or the number after the last one, where they end too soon.
+    /// The first text line, from 1, to whose end the bytes begin no such report; or the number after the last
+    /// one, where they end too soon.
     #[error("report line {0} is wrong")]
     Syntax(u64),
     /// Memory ran out.

@@ -31,7 +31,12 @@ pub(crate) fn read_summary(text: &[u8], lines: u64, distinct: u64) -> Result<(),
 }
 
 // What follows the text line with this number, which has a name and this count.
-fn read_fixed<'a>(text: &'a [u8], name: &[u8], count: u64, line: u64) -> Result<&'a [u8], ReportError>
+fn read_fixed<'a>(
+    text: &'a [u8],
+    name: &[u8],
+    count: u64,
+    line: u64,
+) -> Result<&'a [u8], ReportError>
     requires { line + 1 < 2 ^ 64 }
     ensures { ReadsFixed (named_line name.now count) text.now line result }
 {

@@ -1,7 +1,8 @@
 //! A hash table of a trace's lines that are answered new, looked up by their vectors or by their identifiers.
 
-ghost use Rattle.std.specs.Prelude.{◌≡◌, ◌<◌, ◌≤◌, ◌+◌, ◌*◌, ◌^◌, ◌↔◌, ℕ, List, IsTrue, IfOk, OnOk, length, replicate, slice_set};
-ghost use Rattle.run_check.specs.Table.{AreWithin, HasKey, IsPlaceOf, Kept, PutAt, hash_of, is_vector, line_at, mixed, vector_hash};
+ghost use Rattle.std.specs.Prelude.{◌≡◌, ◌<◌, ◌+◌, ◌^◌, ◌↔◌, ℕ, List, IsTrue, IfOk, OnOk, length, replicate};
+ghost use Rattle.run_check.specs.Table.{AreWithin, HasKey, IsFound, PutAt, hash_of, line_at, mixed};
+ghost use Rattle.run_check.specs.Table.{vector_hash};
 
 use std::alloc::Global;
 use std::marker::Model;
@@ -81,7 +82,7 @@ impl Place {
     }
 }
 
-// A number of a line, plus 1, or 0 in each slot. A line stands at the first slot from its hash on that was free.
+// A line's number plus 1, or 0, in each slot. A line stands at the first slot from its hash on that was free.
 #[derive(Drop)]
 pub(crate) struct LineTable {
     slots: Vec<u32>,
@@ -108,7 +109,7 @@ impl LineTable {
         requires one_each { length replies.now ≡ length trace.now }
         requires some { 0 < length self.now }
         requires within { AreWithin (length trace.now) self.now }
-        ensures { (i : ℕ) → Kept trace.now replies.now i (is_vector key.entry) self.now → IsPlaceOf trace.now replies.now i key.entry self.now result }
+        ensures { IsFound trace.now replies.now key.entry self.now result }
     {
         let size = self.slots.len();
         let start = (key.hash() % size as u64) as usize;
@@ -126,8 +127,8 @@ impl LineTable {
         Place::Full
     }
 
-    // Puts a line where its key was looked for. A table is never full, since it has more room than lines, and no trace has 2^32 lines; both would be
-    // answered as want of memory.
+    // Puts a line where its key was looked for. A table is never full, since it has more room than lines, and
+    // no trace has 2^32 lines; both would be answered as want of memory.
     pub(crate) fn put(&mut self, place: Place, line: u64) -> Result<(), NoMemory>
         ensures { OnOk result (PutAt self.old place line self.new) }
     {

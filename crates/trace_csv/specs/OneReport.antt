@@ -13,4 +13,5 @@ HasWordId reply = IfSome (id_of reply) (λ id. id < 2 ^ 64)
 abbrev pub OneReport : Type 0
 OneReport =
     (replies others : List Reply) (summary other : Summary) → All HasWordId replies → All HasWordId others
-    → length replies < 2 ^ 64 → length others < 2 ^ 64 → report replies summary ≡ report others other → replies ≡ others
+    → length replies < 2 ^ 64 → length others < 2 ^ 64 → report replies summary ≡ report others other
+    → replies ≡ others

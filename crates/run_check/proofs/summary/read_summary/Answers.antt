@@ -8,7 +8,6 @@ returns-in_err-counts-clause-wrong c =
     let p = err_from_is_err_and c.from_residual.result c.from_residual.ensures.1 in
     rw (p.1, p.2) (λ bytes replies count new fit whole.
     lines-refused c.args.lines c.args.distinct (omega arith) (omega arith) bytes c.args.text.now replies count new fit whole
-    
     c.in_err-counts.field-0.0 c.in_err-counts.ensures.0 c.in_err-counts.ensures.1 c.in_err-counts.ensures.2)
 
 pub returns-in_err-stats-clause-wrong : goal.returns-in_err-stats-clause-wrong

@@ -39,8 +39,9 @@ pub returns : goal.returns
 returns c =
     let value = subst (λ (o : Option ℕ). IsCapped o (digits_value 10 (take c.leading_number-value.result.1 c.args.text.now))) c.in-Some.is c.leading_number-value.ensures.value in
     let is = value.0 in
-    let fits = value.1 in
-    (omega arith,
-     number-whole c.args.text.now c.split_at.result.1.now c.leading_number-value.result.1 c.in-Some.value c.args.stop c.leading_number-value.ensures.count
-     (omega arith) (λ padded. both_ways c.is_padded.result c.if-is_padded.false (c.is_padded.ensures.1 padded)) value.0 (omega arith) c.split_at.ensures.back (search rules) c.if-rest-stop.false
-     ∙ sym (ap (λ t. number_to c.args.stop c.in-Some.value ++ t) (take_rest c.split_at.result.1.now 1)))
+    let fits = value.1 in (
+      omega arith,
+      number-whole c.args.text.now c.split_at.result.1.now c.leading_number-value.result.1 c.in-Some.value c.args.stop c.leading_number-value.ensures.count
+          (omega arith) (λ padded. both_ways c.is_padded.result c.if-is_padded.false (c.is_padded.ensures.1 padded)) value.0 (omega arith) c.split_at.ensures.back (search rules) c.if-rest-stop.false
+          ∙ sym (ap (λ t. number_to c.args.stop c.in-Some.value ++ t) (take_rest c.split_at.result.1.now 1)),
+    )

@@ -32,8 +32,11 @@ returns-then-is_of c =
     let value : c.from-line.result ≡ get_or c.args.self.now ((c.hash.result % c.len-size.result + c.loop-step.step) % c.len-size.result) 0 =
     let entry : c.index-entry.result.now ≡ get_or c.args.self.now ((c.hash.result % c.len-size.result + c.loop-step.step) % c.len-size.result) 0 = search (rules, get_or_read) in c.from-line.ensures ∙ entry in
     let some : c.from-line.result ≢ 0 = λ e. c.if-entry-eq0.false (sym c.from-line.ensures ∙ e) in
-    λ i kept. (place-line c.args.trace.now c.args.replies.now c.args.key c.args.self.now c.loop-step.step _ c.from-line.result c.loop-step.invariant at value some
-    (c.is_of.ensures.0 c.if-is_of.true) i kept, tt)
+    λ i kept. (
+      place-line c.args.trace.now c.args.replies.now c.args.key c.args.self.now c.loop-step.step _ c.from-line.result c.loop-step.invariant at value some
+          (c.is_of.ensures.0 c.if-is_of.true) i kept,
+      tt,
+    )
 
 pub loop-step-preserved : goal.loop-step-preserved
 loop-step-preserved c =
@@ -50,5 +53,8 @@ pub returns : goal.returns
 returns c =
     let size : c.len-size.result ≡ length c.args.self.now = search rules in
     let all : c.loop-step.step ≡ length c.args.self.now = omega arith in
-    λ i kept. (none-at-full c.args.trace.now c.args.replies.now i c.args.key c.args.self.now kept
-    (subst (λ (n : ℕ). Seeks c.args.trace.now c.args.replies.now c.args.key c.args.self.now n) all c.loop-step.invariant).passed, tt)
+    λ i kept. (
+      none-at-full c.args.trace.now c.args.replies.now i c.args.key c.args.self.now kept
+          (subst (λ (n : ℕ). Seeks c.args.trace.now c.args.replies.now c.args.key c.args.self.now n) all c.loop-step.invariant).passed,
+      tt,
+    )
