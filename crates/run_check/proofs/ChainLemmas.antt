@@ -1,11 +1,11 @@
 -- The lines of a summary, one after the other.
-use Rattle.std.proofs.Common.{◌≡◌, ◌≤◌, ◌<◌, ◌+◌, ◌^◌, ◌∙◌, ℕ, List, [], ◌∷◌, ◌++◌, length, Some, None, Err, codes, refl, sym, ap, subst, arith, append_assoc}
+use Rattle.std.proofs.Common.{◌≡◌, ◌<◌, ◌+◌, ◌^◌, ◌∙◌, ℕ, List, [], ◌∷◌, ◌++◌, length, Some, None, Err, codes, refl, sym, ap, subst, arith}
 use Rattle.std.proofs.lemmas.List.{append-nil}
 use Rattle.std.specs.Prelude.{All, count_by}
 use Rattle.tdb_base.specs.Replies.{is_new}
 use Rattle.tdb_base.specs.declared.reply.Reply.{Reply}
 use Rattle.trace_csv.specs.OneReport.{HasWordId}
-use Rattle.trace_csv.specs.Report.{named_line, reply_lines, stats_text}
+use Rattle.trace_csv.specs.Report.{named_line, reply_lines}
 use Rattle.run_check.specs.Reading.{Always, IsWord, Misses, ReadsWord, wrong_line}
 use Rattle.run_check.specs.Refusal.{Refuses}
 use Rattle.run_check.specs.Text.{IsSummary, IsWrongAt}

@@ -1,8 +1,8 @@
 -- The replies of a report, one after the other, and all of it.
-use Rattle.std.proofs.Common.{◌⊎◌, inl, inr, ◌≡◌, ◌≤◌, ◌<◌, ◌+◌, ◌^◌, ◌∙◌, ℕ, List, [], ◌∷◌, ◌++◌, length, Option, refl, sym, ap, subst, arith, append_assoc, length-append}
+use Rattle.std.proofs.Common.{◌⊎◌, inl, inr, ◌≡◌, ◌≤◌, ◌<◌, ◌+◌, ◌^◌, ◌∙◌, ℕ, List, [], ◌∷◌, ◌++◌, length, refl, sym, ap, subst, arith, append_assoc, length-append}
 use Rattle.std.proofs.lemmas.Bool.{cases_lt}
 use Rattle.std.proofs.lemmas.List.Elements.{All-nil, All-push}
-use Rattle.std.specs.Prelude.{All, IfErr, IfOk, MatchResult, Ok, Err, Result, count_by}
+use Rattle.std.specs.Prelude.{IfErr, IfOk, MatchResult, Ok, Err, Result, count_by}
 use Rattle.tdb_base.specs.Replies.{is_new}
 use Rattle.tdb_base.specs.declared.reply.Reply.{Reply}
 use Rattle.trace_csv.proofs.OneReportLemmas.{one-report}
@@ -11,7 +11,7 @@ use Rattle.trace_csv.specs.OneReport.{HasWordId}
 use Rattle.trace_csv.specs.Report.{reply_line, reply_lines, summary_of, summary_text}
 use Rattle.run_check.specs.Reading.{Misses, wrong_line}
 use Rattle.run_check.specs.Refusal.{AreRead, Refuses}
-use Rattle.run_check.specs.Text.{BeginsReport, FitWords, IsReportOf, IsSummary, IsWrongAt, text_lines, to_line}
+use Rattle.run_check.specs.Text.{BeginsReport, IsReportOf, IsSummary, IsWrongAt, text_lines, to_line}
 use Rattle.run_check.specs.declared.refusal.ReportError.{ReportError}
 use Rattle.run_check.specs.declared.refusal.ReportError.TheVariants as e
 use Rattle.run_check.specs.declared.word.Fault.{Fault}

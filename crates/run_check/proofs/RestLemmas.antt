@@ -1,5 +1,5 @@
 -- A report of which the lines of some replies are read.
-use Rattle.std.proofs.Common.{◌⊎◌, inl, inr, take, ◌≡◌, ◌≤◌, ◌<◌, ◌+◌, ◌^◌, ◌∙◌, ℕ, List, [], ◌∷◌, ◌++◌, length, Option, None, codes, decimal, refl, sym, ap, subst, arith, append_assoc, length-append, replicate}
+use Rattle.std.proofs.Common.{◌⊎◌, inl, inr, take, ◌≡◌, ◌≤◌, ◌<◌, ◌+◌, ◌^◌, ◌∙◌, ℕ, List, [], ◌∷◌, ◌++◌, length, Option, None, codes, refl, sym, ap, subst, arith, append_assoc, length-append, replicate}
 use Rattle.std.proofs.lemmas.List.{append-nil, length-replicate}
 use Rattle.std.proofs.lemmas.List.Elements.{All-head, All-nil, All-replicate, All-tail}
 use Rattle.std.specs.List.{concat}
@@ -9,8 +9,8 @@ use Rattle.tdb_base.specs.declared.reply.Reply.{Reply}
 use Rattle.tdb_base.specs.declared.reply.Reply.TheVariants as r
 use Rattle.trace_csv.specs.OneReport.{HasWordId}
 use Rattle.trace_csv.specs.Report.{named_line, reply_line, reply_lines, stats_text, summary_of, summary_text}
-use Rattle.run_check.specs.Reading.{Always, IsWord, Misses, ReadsWord, wrong_line}
-use Rattle.run_check.specs.Text.{FitWords, IsReportOf, IsWrongAt, text_lines, to_line}
+use Rattle.run_check.specs.Reading.{Always, Misses, ReadsWord, wrong_line}
+use Rattle.run_check.specs.Text.{IsWrongAt, text_lines, to_line}
 use Rattle.trace_csv.specs.declared.report.Stats.{Stats}
 use Rattle.run_check.specs.declared.word.Fault.{Fault}
 use Rattle.run_check.specs.declared.word.Fault.TheVariants as f

@@ -1,21 +1,20 @@
 -- How a report is read on, a line after a line.
-use Rattle.std.proofs.Common.{◌⊎◌, inl, inr, ◌≡◌, ◌≤◌, ◌<◌, ◌+◌, ◌-◌, ◌^◌, ◌∙◌, ℕ, zero, suc, List, [], ◌∷◌, ◌++◌, length, get_or, Option, Some, None, Bool, true, false, codes, decimal, refl, sym, ap, subst, arith, rules, append_assoc, length-append, replicate}
+use Rattle.std.proofs.Common.{◌≡◌, ◌<◌, ◌+◌, ◌-◌, ◌^◌, ◌∙◌, ℕ, suc, List, [], ◌∷◌, ◌++◌, length, get_or, Option, Some, None, true, codes, decimal, refl, sym, ap, subst, arith, rules, append_assoc, length-append, replicate}
 use Rattle.std.proofs.lemmas.Bool.{ne_eqb}
 use Rattle.std.proofs.lemmas.List.{append-nil, append_cancel_left, length-replicate}
-use Rattle.std.proofs.lemmas.List.Elements.{All-head, All-nil, All-replicate, All-tail, All-cons}
+use Rattle.std.proofs.lemmas.List.Elements.{All-head, All-replicate, All-tail, All-cons}
 use Rattle.std.specs.Char.{is_ascii_digit}
-use Rattle.std.specs.Prelude.{◌==◌, All}
+use Rattle.std.specs.Prelude.{All}
 use Rattle.tdb_base.specs.declared.reply.Reply.{Reply}
 use Rattle.tdb_base.specs.declared.reply.Reply.TheVariants as r
 use Rattle.trace_csv.specs.OneReport.{HasWordId}
-use Rattle.trace_csv.specs.Report.{answer, named_line, reply_line, reply_lines, report, stats_text, summary_of, summary_text}
+use Rattle.trace_csv.specs.Report.{answer, named_line, reply_line, reply_lines, stats_text, summary_of, summary_text}
 use Rattle.trace_csv.specs.declared.report.Stats.{Stats}
 use Rattle.trace_csv.proofs.OneReportLemmas.{decimal-digit, line-cancel, named-cancel}
-use Rattle.run_check.specs.Reading.{Always, IsWord, Misses, wrong_line}
-use Rattle.run_check.specs.Text.{FitWords, IsReportOf, IsWrongAt, text_lines}
-use Rattle.run_check.specs.declared.word.Fault.{Fault}
-use Rattle.run_check.proofs.LineLemmas.{NoFeed, first-line, lines-last, lines-none, lines-word, no-feed-append}
-use Rattle.run_check.proofs.SyntaxLemmas.{At, IsLine, Step, advance, at-same, miss}
+use Rattle.run_check.specs.Reading.{Always, IsWord}
+use Rattle.run_check.specs.Text.{FitWords}
+use Rattle.run_check.proofs.LineLemmas.{NoFeed, no-feed-append}
+use Rattle.run_check.proofs.SyntaxLemmas.{IsLine, Step}
 use Rattle.run_check.proofs.WordLemmas.{digit-range}
 
 no-feed-digits : (xs : List ℕ) → ((k : ℕ) → k < length xs → is_ascii_digit (get_or xs k 0) ≡ true) → NoFeed xs

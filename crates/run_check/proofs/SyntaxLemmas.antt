@@ -1,9 +1,9 @@
 -- Where a report is wrong that is read a line after a line.
-use Rattle.std.proofs.Common.{◌⊎◌, inl, inr, ◌≡◌, ◌≤◌, ◌<◌, ◌+◌, ◌∙◌, ℕ, zero, suc, List, [], ◌∷◌, ◌++◌, length, take, drop, Bool, true, false, refl, sym, ap, subst, arith, append_assoc, length-append}
+use Rattle.std.proofs.Common.{◌⊎◌, inl, inr, ◌≡◌, ◌<◌, ◌+◌, ◌∙◌, ℕ, List, [], ◌∷◌, ◌++◌, length, take, drop, sym, ap, subst, arith, append_assoc, length-append}
 use Rattle.std.proofs.lemmas.List.{append-nil}
 use Rattle.std.specs.List.{concat}
 use Rattle.tdb_base.specs.declared.reply.Reply.{Reply}
-use Rattle.run_check.specs.Reading.{Differs, EndsWithin, Misses, wrong_line}
+use Rattle.run_check.specs.Reading.{Differs, Misses, wrong_line}
 use Rattle.run_check.specs.Text.{BeginsReport, IsReportOf, IsWrongAt, text_lines, to_line}
 use Rattle.run_check.specs.declared.word.Fault.{Fault}
 use Rattle.run_check.specs.declared.word.Fault.TheVariants as f

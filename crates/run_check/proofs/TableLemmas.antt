@@ -1,5 +1,5 @@
 -- A hash table of lines.
-use Rattle.std.proofs.Common.{◌⊎◌, inl, inr, ◌≡◌, ◌≢◌, ◌≤◌, ◌<◌, ◌+◌, ◌-◌, ◌%◌, ◌∙◌, ℕ, zero, suc, List, [], ◌∷◌, length, get_or, set, take, replicate, Option, Some, None, Bool, true, false, refl, sym, ap, subst, arith}
+use Rattle.std.proofs.Common.{◌⊎◌, inl, inr, ◌≡◌, ◌≢◌, ◌≤◌, ◌<◌, ◌+◌, ◌-◌, ◌∙◌, ℕ, List, [], length, get_or, set, take, replicate, Bool, refl, sym, ap, subst, arith}
 use Rattle.std.proofs.lemmas.Bool.{cases_eq, cases_lt}
 use Rattle.std.proofs.lemmas.List.Sums.{fold_more}
 use Rattle.std.specs.Bool.{Decides}
@@ -11,7 +11,7 @@ use Rattle.tdb_base.specs.declared.reply.Reply.{Reply}
 use Rattle.tdb_base.specs.declared.reply.Reply.TheVariants as r
 use Rattle.tdb_base.proofs.ListLemmas.{before-or-last}
 use Rattle.run_check.specs.Reached.{Line}
-use Rattle.run_check.specs.Table.{AreWithin, HasKey, IsFree, Kept, NoneHas, Stands, hash_of, is_vector, mixed, probe, vector_hash}
+use Rattle.run_check.specs.Table.{HasKey, IsFree, Kept, NoneHas, Stands, hash_of, is_vector, mixed, probe, vector_hash}
 use Rattle.run_check.specs.declared.table.Key.{Key}
 use Rattle.run_check.specs.declared.table.Key.TheVariants as k
 use Rattle.run_check.proofs.Dealt.{line-reply, line-vector, new-id}

@@ -1,5 +1,5 @@
 -- What is told of a claim as the code has it: a trace, its replies, found lines, and how lines are dealt out.
-use Rattle.std.specs.Prelude.{◌≡◌, ◌≤◌, ◌<◌, ◌+◌, ◌^◌, ℕ, List, Option, IfSome, MatchOption, length}
+use Rattle.std.specs.Prelude.{◌≤◌, ◌<◌, ◌+◌, ◌^◌, ℕ, List, Option, IfSome, MatchOption, length}
 use Rattle.run_check.specs.Index.{Finds}
 use Rattle.run_check.specs.Passing.{AllDone, IsBlocked, IsSound, IsUndone, MayPass, left}
 use Rattle.run_check.specs.Sentences.{AllReached, IsFullNamed, IsLeast, IsLone, IsStuck, IsVerdict}

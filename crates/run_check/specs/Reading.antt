@@ -3,7 +3,6 @@ use Rattle.std.specs.Prelude.{◌≡◌, ◌≤◌, ◌<◌, ◌+◌, ◌^◌, �
 use Rattle.std.specs.Prelude.{Ok, Err, Result, Option, MatchOption}
 use Rattle.std.specs.Borrow.{Bor}
 use Rattle.std.specs.Fmt.{decimal}
-use Rattle.trace_csv.specs.Report.{named_line}
 use Rattle.run_check.specs.declared.word.Fault.{Fault}
 use Rattle.run_check.specs.declared.word.Fault.TheVariants as f
 

@@ -1,6 +1,6 @@
 use Rattle.std.proofs.Common.{arith, rules}
 use Rattle.std.proofs.lemmas.Result.{err_from_is_err_and}
-use Rattle.run_check.proofs.ChainLemmas.{distinct-refused, end-refused, lines-refused, nodes-refused, raw-refused, stored-refused, summary-long, summary-short}
+use Rattle.run_check.proofs.ChainLemmas.{distinct-refused, end-refused, lines-refused, nodes-refused, raw-refused, stored-refused, summary-long}
 use Rattle.run_check.proofs.summary.read_summary.Goals as goal
 
 pub returns-in_err-counts-clause-wrong : goal.returns-in_err-counts-clause-wrong

@@ -1,4 +1,4 @@
-use Rattle.std.proofs.Common.{◌<◌, ◌∙◌, ap, arith, get_or, length}
+use Rattle.std.proofs.Common.{◌∙◌, ap, arith}
 use Rattle.run_check.specs.Table.{mixed}
 use Rattle.run_check.proofs.TableLemmas.{hash-more, hash-none}
 use Rattle.run_check.proofs.table.vector_hash.Goals as goal

@@ -1,4 +1,4 @@
-use Rattle.std.proofs.Common.{◌≡◌, ◌<◌, ◌-◌, refl, true, false, arith, rules, sym, length, get_or, below_more}
+use Rattle.std.proofs.Common.{◌≡◌, ◌-◌, refl, true, false, arith, rules, sym, length, get_or, below_more}
 use Rattle.std.proofs.lemmas.List.Sums.{prefix_len_is}
 use Rattle.std.specs.Char.{is_ascii_digit}
 use Rattle.run_check.proofs.WordLemmas.{capped-more}

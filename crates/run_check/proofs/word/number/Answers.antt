@@ -1,4 +1,4 @@
-use Rattle.std.proofs.Common.{◌≡◌, ◌<◌, ◌∙◌, ◌++◌, ℕ, Option, Some, None, arith, rules, ap, sym, subst, length, get_or, take, drop}
+use Rattle.std.proofs.Common.{◌≡◌, ◌∙◌, ◌++◌, ℕ, Option, None, arith, rules, ap, sym, subst, take}
 use Rattle.std.proofs.lemmas.Bool.{both_ways}
 use Rattle.std.proofs.lemmas.List.{take_rest}
 use Rattle.std.specs.Str.Parse.{digits_value}
