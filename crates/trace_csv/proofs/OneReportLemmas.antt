@@ -1,5 +1,5 @@
 -- A report is read in one way: a number ends where its digits do, and a line tells its reply.
-use Rattle.std.proofs.Common.{◌≡◌, ◌≤◌, ◌<◌, ◌+◌, ◌^◌, ◌∙◌, ℕ, zero, suc, List, [], ◌∷◌, ◌++◌, length, get_or, take, drop, Bool, true, false, codes, decimal, refl, sym, ap, subst, arith, rules, append_assoc, length-append}
+use Rattle.std.proofs.Common.{◌≡◌, ◌≤◌, ◌<◌, ◌+◌, ◌^◌, ◌∙◌, ℕ, List, [], ◌∷◌, ◌++◌, length, get_or, take, drop, true, false, codes, decimal, refl, sym, ap, arith, rules, append_assoc, length-append}
 use Rattle.std.proofs.lemmas.List.{append_cancel_left, get_or_append_left, get_or_at, take_at}
 use Rattle.std.proofs.lemmas.Bool.{le-leb}
 use Rattle.std.proofs.lemmas.Fmt.{decimal_injective, decimal_is_IsNumeral}
@@ -12,7 +12,7 @@ use Rattle.std.specs.Prelude.{◌==◌, All}
 use Rattle.tdb_base.specs.declared.reply.Reply.{Reply}
 use Rattle.tdb_base.specs.declared.reply.Reply.TheVariants as r
 use Rattle.trace_csv.specs.OneReport.{HasWordId, OneReport}
-use Rattle.trace_csv.specs.Report.{answer, named_line, reply_line, reply_lines, report, summary_text}
+use Rattle.trace_csv.specs.Report.{answer, named_line, reply_line, reply_lines, summary_text}
 use Rattle.trace_csv.specs.declared.report.Summary.{Summary}
 
 digit-test : (c : ℕ) → 48 ≤ c → c ≤ 57 → is_ascii_digit c ≡ true

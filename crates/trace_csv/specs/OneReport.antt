@@ -1,5 +1,5 @@
 -- That a report tells its replies.
-use Rattle.std.specs.Prelude.{◌≡◌, ◌<◌, ◌^◌, ℕ, List, length, All, IfSome}
+use Rattle.std.specs.Prelude.{◌≡◌, ◌<◌, ◌^◌, List, length, All, IfSome}
 use Rattle.tdb_base.specs.Replies.{id_of}
 use Rattle.tdb_base.specs.declared.reply.Reply.{Reply}
 use Rattle.trace_csv.specs.Report.{report}

@@ -63,7 +63,7 @@ fn own_line(from: usize, count: usize, block: usize, worker: usize) -> Option<us
     (from..count).find(|i| block > 0 && i / block % 2 == worker)
 }
 
-// Whether the lines, each worker's in its order, can be answered so where a bit a step says whose line is next.
+// Whether the lines, each worker's in its order, can be answered so; a bit a step says whose line is next.
 fn fits(lines: &Lines, block: usize, order: usize) -> bool {
     let mut names = Names { ids: [None, None] };
     let mut next = [0, 0];
