@@ -40,9 +40,10 @@ pub number-cancel : (a b c : ℕ) (x y : List ℕ) → a < 2 ^ 64 → b < 2 ^ 64
 number-cancel a b c x y one other stop e =
     let size : length (decimal a) ≡ length (decimal b) = sym (front-digits a c x one stop) ∙ ap (prefix_len is_ascii_digit) e ∙ front-digits b c y other stop in
     let digits : decimal a ≡ decimal b =
-    sym (take_at (decimal a) (c ∷ x) (length (decimal a)) refl) ∙ ap (take (length (decimal a))) e ∙ take_at (decimal b) (c ∷ y) (length (decimal a)) (sym size) in
-    (decimal_injective a b one other digits,
-     tail-same c c x y (append_cancel_left (decimal a) (c ∷ x) (c ∷ y) (e ∙ ap (λ (t : List ℕ). t ++ c ∷ y) (sym digits))))
+    sym (take_at (decimal a) (c ∷ x) (length (decimal a)) refl) ∙ ap (take (length (decimal a))) e ∙ take_at (decimal b) (c ∷ y) (length (decimal a)) (sym size) in (
+      decimal_injective a b one other digits,
+      tail-same c c x y (append_cancel_left (decimal a) (c ∷ x) (c ∷ y) (e ∙ ap (λ (t : List ℕ). t ++ c ∷ y) (sym digits))),
+    )
 
 -- a text that begins with a digit
 pub digit-first : (n : ℕ) (x : List ℕ) → n < 2 ^ 64 → is_ascii_digit (get_or (decimal n ++ x) 0 0) ≡ true
@@ -100,7 +101,7 @@ pub line-cancel : (n : ℕ) (p q : Reply) (x y : List ℕ) → HasWordId p → H
 line-cancel n p q x y one other e =
     answer-cancel p q x y one other
     (append_cancel_left (decimal n ++ codes ",") (answer p ++ x) (answer q ++ y)
-     (sym (append_assoc (decimal n ++ codes ",") (answer p) x) ∙ e ∙ append_assoc (decimal n ++ codes ",") (answer q) y))
+    (sym (append_assoc (decimal n ++ codes ",") (answer p) x) ∙ e ∙ append_assoc (decimal n ++ codes ",") (answer q) y))
 
 named-text : (name : List ℕ) (n : ℕ) (x : List ℕ) → named_line name n ++ x ≡ name ++ (decimal n ++ 10 ∷ x)
 named-text name n x = append_assoc (name ++ decimal n) (codes "\n") x ∙ append_assoc name (decimal n) (10 ∷ x)
