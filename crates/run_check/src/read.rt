@@ -14,7 +14,7 @@ use crate::summary::read_summary;
 use std::alloc::Global;
 use tdb_base::Reply;
 
-/// The replies of a report of so many lines, from 1 to 2^24.
+/// The replies of a report of so many lines, at most 2^32.
 ///
 /// `Ok` is the answer exactly where the bytes are such a report, byte for byte: the lines numbered from 1,
 /// the summary with the counts of these replies, the three counts of a store or none, all numbers of 64 bits
@@ -22,8 +22,7 @@ use tdb_base::Reply;
 /// end the bytes begin no such report, or the number after the last one where all of them do. `NoMemory` may
 /// come anywhere.
 pub fn read_report(alloc: Global, bytes: &[u8], lines: u64) -> Result<Vec<Reply>, ReportError>
-    requires some { 1 ≤ lines }
-    requires few { lines ≤ 2 ^ 24 }
+    requires few { lines ≤ 2 ^ 32 }
     ensures read { IfOk result (λ replies. IsReportOf lines bytes.now replies.items) }
     ensures refused { IfErr result (Refuses lines bytes.now) }
     ensures whole { (r : List Reply) → IsReportOf lines bytes.now r → GivesReplies (λ v. v.items) result r }
@@ -34,7 +33,7 @@ pub fn read_report(alloc: Global, bytes: &[u8], lines: u64) -> Result<Vec<Reply>
 
 // The same; that there is one answer follows.
 fn read(alloc: Global, bytes: &[u8], lines: u64) -> Result<Vec<Reply>, ReportError>
-    requires few { lines ≤ 2 ^ 24 }
+    requires few { lines ≤ 2 ^ 32 }
     ensures read { IfOk result (λ replies. IsReportOf lines bytes.now replies.items) }
     ensures refused { IfErr result (Refuses lines bytes.now) }
 {
@@ -45,7 +44,7 @@ fn read(alloc: Global, bytes: &[u8], lines: u64) -> Result<Vec<Reply>, ReportErr
 
 // The replies of so many lines, and what follows these.
 fn read_replies(alloc: Global, bytes: &[u8], lines: u64) -> Result<(Vec<Reply>, &[u8]), ReportError>
-    requires few { lines ≤ 2 ^ 24 }
+    requires few { lines ≤ 2 ^ 32 }
     ensures read { IfOk result (λ r. AreRead lines bytes.now r.0.items r.1.now) }
     ensures refused { IfErr result (Refuses lines bytes.now) }
 {

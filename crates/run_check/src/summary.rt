@@ -11,7 +11,7 @@ use crate::word::{Fault, after, after_number, number};
 
 // The summary of so many lines, of which so many are new, and nothing after it.
 pub(crate) fn read_summary(text: &[u8], lines: u64, distinct: u64) -> Result<(), ReportError>
-    requires few { lines ≤ 2 ^ 24 }
+    requires few { lines ≤ 2 ^ 32 }
     requires fewer { distinct ≤ lines }
     ensures read { OnOk result (IsSummary lines distinct text.now) }
     ensures wrong { IfErr result (RefusesAfter lines distinct text.now) }
