@@ -30,7 +30,8 @@ struct Caller {
 
 // Finds or puts the pairs with these numbers; answers how often the table was full.
 fn put_all(nodes: &Nodes<NoRoot, 28, 7>, pass: &mut Pass<NoRoot, 28, 7>, from: u64, to: u64) -> u64
-    requires { AtRest no_roots nodes.now pass.old }
+    requires width { nodes.now.about.width ≡ 28 }
+    requires rest { AtRest no_roots nodes.now pass.old }
     ensures { AtRest no_roots nodes.now pass.new }
 {
     let mut steps = Steps::new(Silent);
@@ -51,7 +52,8 @@ fn put_shares<H: Threads + Sync>(
     callers: &mut [Caller],
     all: bool,
 )
-    requires { All (λ c. AtRest no_roots nodes.now c.pass) callers.old }
+    requires width { nodes.now.about.width ≡ 28 }
+    requires callers { All (λ c. AtRest no_roots nodes.now c.pass) callers.old }
     ensures { All (λ c. AtRest no_roots nodes.now c.pass) callers.new }
 {
     let count = callers.len();
@@ -61,7 +63,8 @@ fn put_shares<H: Threads + Sync>(
             callers,
             count,
             &|_, caller: &mut Caller|
-                requires { AtRest no_roots nodes.now caller.now.pass }
+                requires width { nodes.now.about.width ≡ 28 }
+                requires rest { AtRest no_roots nodes.now caller.now.pass }
                 ensures { AtRest no_roots nodes.entry.now caller.exit.now.pass }
             {
                 let (from, to) = if all {
@@ -178,7 +181,8 @@ fn timed<H: Threads + Sync>(
     callers: &mut [Caller],
     all: bool,
 ) -> u64
-    requires { All (λ c. AtRest no_roots nodes.now c.pass) callers.old }
+    requires width { nodes.now.about.width ≡ 28 }
+    requires callers { All (λ c. AtRest no_roots nodes.now c.pass) callers.old }
     ensures { All (λ c. AtRest no_roots nodes.now c.pass) callers.new }
 {
     let start = Instant::now(rt);

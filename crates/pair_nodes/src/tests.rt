@@ -38,6 +38,7 @@ fn put_pairs<L: Ledger, R: RootPart<W, F>, const W: u32, const F: u32>(
     steps: &mut Steps<L>,
 )
     requires rest { AtRest R.part nodes.now pass.old }
+    requires width { nodes.now.about.width ≡ W }
     requires wide { 12 ≤ 2 ^ W }
     ensures { AtRest R.part nodes.now pass.new }
 {
@@ -63,7 +64,8 @@ fn put_at_once<H: Threads + Sync>(
     callers: &mut [Caller<()>],
     pairs: u64,
 )
-    requires { All (λ c. AtRest no_roots nodes.now c.pass) callers.old }
+    requires width { nodes.now.about.width ≡ 16 }
+    requires callers { All (λ c. AtRest no_roots nodes.now c.pass) callers.old }
     ensures { All (λ c. AtRest no_roots nodes.now c.pass) callers.new }
 {
     let count = callers.len();
@@ -73,7 +75,8 @@ fn put_at_once<H: Threads + Sync>(
             callers,
             count,
             &|_, caller: &mut Caller<()>|
-                requires { AtRest no_roots nodes.now caller.now.pass }
+                requires width { nodes.now.about.width ≡ 16 }
+                requires rest { AtRest no_roots nodes.now caller.now.pass }
                 ensures { AtRest no_roots nodes.entry.now caller.exit.now.pass }
             {
                 let mut steps = Steps::new(Silent);

@@ -80,7 +80,6 @@ inside_never_named part store p v b q rq known roots = by (name_of (view q).seen
         let there : Has (x.0, other.0) nodes = subst (λ (i : ℕ). Has (i, other.0) nodes) here (known (bucket (node_buckets store.about) (pair_of store.about.width b.left b.right) path.0) other.0 other.1) in
         absurd (other.2 (s.nodes.naming.one_pair x.0 other.0 index.0 there index.1 ∙ pair_is))
 
-
 -- and not where its root has none
 pub root_never_named : {T : Type 0} (part : Part T) → Refusals part → (store : Store) (p : PassOf T) (v : Vector) → AtRest part store p → HasBlockedRoot part store.about (view p) v → NeverNamed part store p v
 root_never_named part refusals store p v rp b q rq known roots = refusals.for_good store p q b.0 v rp rq known roots b.1 b.2

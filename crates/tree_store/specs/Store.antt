@@ -60,7 +60,11 @@ module _ {T : Type 0} where
   -- the tree that was put is the last one
   abbrev pub TreeBecomesLast : PassOf T → PassOf T → Type 0
   TreeBecomesLast old new = new ≡ record old {
-    seat = new.seat; names_count = new.names_count; last_tree = old.next_tree; next_tree = old.last_tree; has_last = true
+    seat = new.seat;
+    names_count = new.names_count;
+    last_tree = old.next_tree;
+    next_tree = old.last_tree;
+    has_last = true;
   }
 
   -- the last tree is as it was

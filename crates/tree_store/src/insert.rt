@@ -146,7 +146,15 @@ impl<const W: u32, const F: u32> TreeStore<PlainRoot<W, F>, W, F> {
     {
         let nodes = &self.nodes;
         let shape = &self.shape;
-        put_vector(&PlainTable::over(nodes), nodes, shape, pass, vector, false, steps)
+        put_vector(
+            &PlainTable::over(nodes),
+            nodes,
+            shape,
+            pass,
+            vector,
+            false,
+            steps,
+        )
     }
 
     /// The same, but only those inner nodes are put below which the vector differs from that of the pass's last tree, if

@@ -50,7 +50,7 @@ pub(crate) fn work_at_once<R: Threads + Sync, G: Gate, const W: u32, const F: u3
     requires ready { All (IsReady plain store.now (length trace.now) workers block) crew.old.items }
     ensures answered { (j : ℕ) (d : _) → j < length crew.old.items
         → HasAnswered plain store.now trace.now workers block (slice_index_or crew.old.items j d)
-            (slice_index_or crew.new.items j d) }
+        (slice_index_or crew.new.items j d) }
     ensures all { length crew.new.items ≡ length crew.old.items }
 {
     let count = crew.len();

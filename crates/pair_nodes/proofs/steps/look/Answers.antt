@@ -17,8 +17,7 @@ load-requires g c =
     let key = e.key in
     let words = ap (λ z. z.words) e.table in
     let inside = subst (λ (a : About). c.args.at < size (node_buckets a)) (sym key) c.requires.inside in
-    let about_is = c.requires.rest.seat.about_is ∙ sym key in
-    (
+    let about_is = c.requires.rest.seat.about_is ∙ sym key in (
       c.requires.rest.seat.table_is ∙ sym e.table,
       omega (arith, words, e.store.words_are),
       looks _ t.key g.R.RootPart.part (g.R.RootPart.holds t.key) (g.met.R.RootPart.sounds t.key) (g.met.R.RootPart.houses t.key) (g.met.R.RootPart.keeps t.key) t.table_id.slots

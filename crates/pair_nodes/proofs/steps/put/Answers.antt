@@ -27,8 +27,7 @@ compare_exchange-found-requires g c =
     let is_pair = subst (λ (a : About). IsPair (node_buckets a) pair) (sym key) r.pair.1 in
     let near = subst (λ (a : About). step < reach (node_buckets a)) (sym key) r.passed.1 in
     let lies = subst (λ (a : About). bucket (node_buckets a) pair step ≡ c.args.at) (sym key) r.passed.2 in
-    let passed = subst (λ (a : About). Passed (node_buckets a) (Listed v.known) pair step) about_is r.passed.3 in
-    (
+    let passed = subst (λ (a : About). Passed (node_buckets a) (Listed v.known) pair step) about_is r.passed.3 in (
       r.rest.seat.table_is ∙ sym e.table,
       omega (arith, words, e.store.words_are),
       puts _ t.key g.R.RootPart.part (g.R.RootPart.holds t.key) (g.met.R.RootPart.sounds t.key) (g.met.R.RootPart.houses t.key) (g.met.R.RootPart.keeps t.key) t.table_id.slots

@@ -18,8 +18,8 @@ returns-then-without_flags-word-clause-outcome g c =
     let is = c.requires.store in
     shows_pair (pair_of_word c.args.word) c.args.at n (view c.args.pass.now) (view c.settle.new.pass) e.found e.used
     (λ x h.
-        let r = flagless about g.row.W n is.is_about is.width_is x c.without_flags.result (subst (λ (y : About). IsRoot y n x) c.requires.rest.seat.about_is h) c.without_flags.ensures in
-        omega (arith, r, c.if-without_flags-word.true))
+    let r = flagless about g.row.W n is.is_about is.width_is x c.without_flags.result (subst (λ (y : About). IsRoot y n x) c.requires.rest.seat.about_is h) c.without_flags.ensures in
+    omega (arith, r, c.if-without_flags-word.true))
 
 pub returns-else-without_flags-word-clause-outcome : goal.returns-else-without_flags-word-clause-outcome
 returns-else-without_flags-word-clause-outcome g c =
@@ -30,5 +30,5 @@ returns-else-without_flags-word-clause-outcome g c =
     let is = c.requires.store in
     shows_other pair c.args.at n (view c.args.pass.now) (view c.settle.new.pass) e.found e.used
     (λ h.
-        let r = flagless about g.row.W n is.is_about is.width_is pair c.without_flags.result (subst (λ (y : About). IsRoot y n pair) c.requires.rest.seat.about_is h) c.without_flags.ensures in
-        absurd (c.if-without_flags-word.false (r ∙ sym c.requires.word.whole)))
+    let r = flagless about g.row.W n is.is_about is.width_is pair c.without_flags.result (subst (λ (y : About). IsRoot y n pair) c.requires.rest.seat.about_is h) c.without_flags.ensures in
+    absurd (c.if-without_flags-word.false (r ∙ sym c.requires.word.whole)))

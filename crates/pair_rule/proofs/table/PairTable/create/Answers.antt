@@ -23,8 +23,7 @@ unfolding size
 invariant_of-result g c =
     let about : About = record { sizes = c.args.sizes.now; slots = c.args.slots; root_words = c.words-root_words.result; width = g.row.W; flags = g.row.F } in
     let e = c.in_ok-table.ensures in
-    let n : c.in_ok-table.table.shared.table_id.words ≡ (1 + c.bucket_count.result) + c.words-root_words.result = e.0 ∙ (ap length (c.as_slice.ensures.value ∙ c.in_ok-words.ensures) ∙ length-replicate _ _) in
-    (
+    let n : c.in_ok-table.table.shared.table_id.words ≡ (1 + c.bucket_count.result) + c.words-root_words.result = e.0 ∙ (ap length (c.as_slice.ensures.value ∙ c.in_ok-words.ensures) ∙ length-replicate _ _) in (
       e.5,
       record {
         is_about = record { range = c.requires; root_words_are = c.words-root_words.ensures.all; root_words_small = c.words-root_words.ensures.small };
