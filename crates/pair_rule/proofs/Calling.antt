@@ -1,9 +1,8 @@
 -- Calls on roots, one after another, whatever the root table is.
 use Rattle.std.proofs.Common.{◌≡◌, ℕ, ◌∷◌, [], length, Bool, refl, sym, ap, ◌∙◌, subst, append-nil}
-use Rattle.atomic_table.specs.declared.shared.Seat.{Seat}
-use Rattle.tree_shape.specs.Tree.{Has, RootStands}
+use Rattle.tree_shape.specs.Tree.{RootStands}
 use Rattle.tree_shape.proofs.Trees.{one_vector}
-use Rattle.tdb_base.specs.History.{Vector, History}
+use Rattle.tdb_base.specs.History.{Vector}
 use Rattle.pair_rule.specs.declared.view.View.{View}
 use Rattle.pair_rule.specs.declared.sizes.About.{About}
 use Rattle.pair_rule.specs.declared.pass.PassOf.{PassOf}

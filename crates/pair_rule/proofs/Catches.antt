@@ -3,13 +3,11 @@ use Rattle.std.proofs.Common.{◌≡◌, ◌<◌, ◌^◌, ℕ, ◌+◌, List, [
 use Rattle.std.specs.Prelude.{◌&&◌, ◌||◌, ◌==◌}
 use Rattle.std.specs.List.{list_any}
 use Rattle.std.proofs.lemmas.List.Sums.{sum_by-append}
-use Rattle.atomic_table.specs.Seated.{TableId}
 use Rattle.tree_shape.specs.Tree.{Has, Stands}
 use Rattle.tree_shape.proofs.Trees.{stands_more}
 use Rattle.tdb_base.specs.History.{Put, Entry, History, is_fresh, calls}
 use Rattle.tdb_base.specs.Legal.{Extends}
 use Rattle.pair_rule.specs.declared.view.View.{View}
-use Rattle.pair_rule.specs.declared.sizes.About.{About}
 use Rattle.pair_rule.specs.declared.pass.PassOf.{PassOf}
 use Rattle.pair_rule.specs.Part.{Part, Store}
 use Rattle.pair_rule.specs.Rest.{SeatRests, AtRest, names_of_callers, view}

@@ -1,5 +1,5 @@
 -- A table without roots: there are no root pairs, nothing is asked of how they lie, and nobody called.
-use Rattle.std.specs.Prelude.{◌≡◌, List, [], ◌∷◌, ◌++◌}
+use Rattle.std.specs.Prelude.{◌≡◌, [], ◌∷◌, ◌++◌}
 use Rattle.std.proofs.Common.{refl, sym, ◌∙◌}
 use Rattle.tdb_base.specs.History.{History}
 use Rattle.tdb_base.specs.Legal.{Extends}

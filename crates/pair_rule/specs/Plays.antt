@@ -1,5 +1,5 @@
 -- What each step on the table tells.
-use Rattle.std.specs.Prelude.{◌≡◌, ◌≢◌, ℕ, suc, ◌-◌, ◌⊎◌, List, [], ◌++◌, true}
+use Rattle.std.specs.Prelude.{◌≡◌, ◌≢◌, ℕ, suc, ◌-◌, ◌⊎◌, [], ◌++◌, true}
 use Rattle.atomic_table.specs.Table.{Me, Step}
 use Rattle.tree_shape.specs.Tree.{Has, IsPart}
 use Rattle.tdb_base.specs.History.{History, calls}

@@ -1,16 +1,15 @@
 -- The lines that a choice takes, reads and draws.
-use Rattle.std.proofs.Common.{◌≡◌, ◌≢◌, ◌⊎◌, ◌<◌, ◌≤◌, ◌^◌, ℕ, List, [], ◌∷◌, length, Bool, true, false, Option, Some, None, refl, sym, ap, ◌∙◌, subst, inl, inr, ⊎_elim, arith, get_or, eq-eqb, ne_eqb}
-use Rattle.std.specs.Prelude.{◌==◌, All, IfSome, Result, Ok, Err}
+use Rattle.std.proofs.Common.{◌≡◌, ◌<◌, ◌^◌, ℕ, List, [], length, true, false, Some, None, refl, sym, ap, ◌∙◌, subst, ⊎_elim, arith, get_or, eq-eqb, ne_eqb}
+use Rattle.std.specs.Prelude.{◌==◌, All, Ok}
 use Rattle.std.specs.List.{list_all}
 use Rattle.std.proofs.lemmas.Bool.{cases_eq}
 use Rattle.std.proofs.lemmas.List.Folds.{list_all_at}
 use Rattle.std.proofs.lemmas.List.Sums.{AllPass-from_list_all, list_all-from_AllPass}
 use Rattle.tdb_base.specs.History.{Vector}
 use Rattle.trace_csv.specs.Trace.{Unsigned, trace_of}
-use Rattle.command_line.specs.declared.outcome.Mode.{Mode}
-use Rattle.command_line.specs.declared.outcome.Mode.TheVariants.{Plain, Compact}
+use Rattle.command_line.specs.declared.outcome.Mode.TheVariants.{Compact}
 use Rattle.command_line.specs.declared.outcome.Choice.{Choice}
-use Rattle.treedb.specs.Lines.{read_lines, taken_lines, takes_lines}
+use Rattle.treedb.specs.Lines.{read_lines, takes_lines}
 use Rattle.treedb.specs.Pairs.{IsPair}
 use Rattle.treedb.specs.Reading.{IsRefusedFor}
 use Rattle.treedb.specs.declared.ended.Refusal.{Refusal}

@@ -1,4 +1,4 @@
-use Rattle.std.proofs.Common.{◌≡◌, ◌≤◌, ◌^◌, ℕ, List, length, ap, arith}
+use Rattle.std.proofs.Common.{ℕ, List, length, ap, arith}
 use Rattle.trace_csv.proofs.FewLines.{drawn_length}
 use Rattle.treedb.proofs.input.drawn.Goals as goal
 

@@ -1,21 +1,11 @@
-use Rattle.std.proofs.Common.{◌≡◌, ◌*◌, ◌-◌, ◌≤◌, ℕ, List, length, sym, ap, ◌∙◌, subst, arith, rules, Some}
-use Rattle.std.specs.Prelude.{All, IfSome}
-use Rattle.tdb_base.specs.History.{Vector, name_of}
-use Rattle.tdb_base.specs.Renamed.{place_of, renamed}
-use Rattle.tdb_base.specs.declared.reply.Reply.{Reply}
+use Rattle.std.proofs.Common.{◌≡◌, ℕ, length, sym, ap, ◌∙◌, subst, rules}
+use Rattle.std.specs.Prelude.{All}
+use Rattle.tdb_base.specs.History.{Vector}
 use Rattle.command_line.specs.Sizes.{AreTableSizes}
 use Rattle.pair_rule.specs.declared.sizes.Sizes.{Sizes}
-use Rattle.pair_rule.specs.declared.view.View.{View}
-use Rattle.root_plain.specs.declared.root.Roots.{Roots}
-use Rattle.work_run.proofs.Few.{few_puts}
-use Rattle.pair_rule.specs.Laws.{IsAbout}
-use Rattle.pair_rule.specs.Rest.{view}
-use Rattle.root_plain.specs.Plain.{sized, count}
 use Rattle.treedb.specs.Offered.{flag_count}
 use Rattle.treedb.specs.Stored.{IsAboutChoice}
-use Rattle.treedb.specs.ReadBack.{AwaitsLines, IfPrinted, IsReadBack, IsReadBy, ReadsInto, new_id, new_ids}
-use Rattle.treedb.proofs.NewLemmas.{if-printed, if-some, new-named, read-back, read-into, read-renamed}
-use Rattle.treedb.proofs.Stores.{own_agrees, agrees_run, in_store_run, history}
+use Rattle.treedb.specs.ReadBack.{AwaitsLines, IfPrinted}
 use Rattle.treedb.proofs.plain.insert_into.Goals as goal
 
 pub insert_lines-requires : goal.insert_lines-requires

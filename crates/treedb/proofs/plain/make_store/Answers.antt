@@ -1,4 +1,4 @@
-use Rattle.std.proofs.Common.{◌≡◌, ◌≤◌, ⊎_elim, ap, ◌∙◌}
+use Rattle.std.proofs.Common.{◌≡◌, ⊎_elim, ap, ◌∙◌}
 use Rattle.std.specs.Prelude.{◌⊎◌, Err}
 use Rattle.tree_store.specs.Ranges.{NodesFit, RootsFit, ProbeFits, IsFirstOut}
 use Rattle.pair_rule.specs.declared.sizes.Sizes.{Sizes}

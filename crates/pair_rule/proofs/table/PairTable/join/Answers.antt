@@ -1,6 +1,6 @@
 use Rattle.std.proofs.Common.{arith, refl, ap, ◌∙◌, subst, ◌+◌}
 use Rattle.pair_rule.specs.View.{joined_view}
-use Rattle.pair_rule.specs.Rest.{KeepsCalls, view}
+use Rattle.pair_rule.specs.Rest.{view}
 use Rattle.pair_rule.specs.Splits.{HasTaken}
 use Rattle.pair_rule.proofs.Rests.{pass_joined, few_nodes, few_names_given}
 use Rattle.pair_rule.proofs.table.PairTable.join.Goals as goal

@@ -1,4 +1,4 @@
-use Rattle.std.proofs.Common.{arith, refl, sym, ap, ◌∙◌, []}
+use Rattle.std.proofs.Common.{arith, refl, sym, ap, ◌∙◌}
 use Rattle.pair_rule.proofs.Passes.{joins}
 use Rattle.pair_rule.proofs.Steps.{after_joins}
 use Rattle.pair_rule.proofs.Rests.{told_joined, taken_joined, view_joined, rests_joined}
