@@ -7,3 +7,4 @@ pub mod Stores
 pub mod Outcomes
 pub mod ReadBackLemmas
 pub mod NewLemmas
+pub mod Ending

@@ -19,7 +19,7 @@ use Rattle.command_line.specs.declared.outcome.Choice.{Choice}
 use Rattle.treedb.specs.Lines.{IsTraceFor, is_reader, valid_lines}
 use Rattle.treedb.specs.Note.{status_of}
 use Rattle.treedb.specs.Offered.{flag_count}
-use Rattle.treedb.specs.Outcome.{IsDetail, Outcome}
+use Rattle.treedb.specs.Outcome.{EndsAs, IsDetail, SinkStep, SourceStep}
 use Rattle.treedb.specs.Reading.{EndsReading, GaveWithin, IsRefusedFor, ReadsToEnd}
 use Rattle.treedb.specs.Run.{GivesWithin, IsOfMode, IsText, Prints, Run, is_printed, reads_to_end}
 use Rattle.treedb.specs.Writing.{WritesAnswers, WritesText, ended_with, ended_with_full, text_of}
@@ -36,34 +36,42 @@ gives old new result status g there back = record {
 }
 
 module _ {S K : Type 0} (c : Choice) (left : S → Option (List ℕ)) (source_faults : S → ℕ) (taken : K → Option (List ℕ)) (sink_faults : K → ℕ) (settled : K → Bool) (source source' : S) (sink sink' : K) where
+  abbrev reads : SourceStep S
+  reads = record { left = left; faults = source_faults; old = source; new = source' }
+
+  abbrev unwritten_sink : SinkStep K
+  unwritten_sink = record { taken = taken; faults = sink_faults; settled = settled; old = sink; new = sink }
+
   -- a run that wrote nothing
   quiet : (ended : Ended) → is_printed (status_of ended) ≡ false → status_of ended ≢ s.WriteFault → status_of ended ≢ s.Usage → (is_reader c.job ≡ false → source' ≡ source)
       → (status_of ended ≡ s.ReadFault → Rose (source_faults source) (source_faults source')) → GivesWithin (left source) (left source') (status_of ended)
       → (status_of ended ≡ s.BadTrace → IfSome (left source) (λ bytes. valid_lines c bytes ≡ None))
       → (reads_to_end (status_of ended) ≡ true → is_reader c.job ≡ true → IsAtEnd (left source'))
       → IsDetail (Some c) (left source) (taken sink) (taken sink) ended
-      → Outcome (Some c) left source_faults taken sink_faults settled source source' sink sink (status_of ended) ended
+      → EndsAs (Some c) reads unwritten_sink ended
   quiet ended silent unwritten taken_words drawn read gave bad at_end detail = record {
-    usage = λ u. absurd (taken_words u);
-    refused_words = λ n. cc n;
-    unread = λ u. absurd (taken_words u);
-    drawn = drawn;
-    read_fault = read;
-    gave = gave;
-    bad_trace = bad;
-    write_fault = λ w. absurd (unwritten w);
-    untouched = λ a b. refl;
-    front = λ w. absurd (unwritten w);
-    end = at_end;
-    settles = λ p. cc (p, silent);
-    prints = λ p. cc (p, silent);
+    outcome = record {
+      usage = λ u. absurd (taken_words u);
+      refused_words = λ n. cc n;
+      unread = λ u. absurd (taken_words u);
+      drawn = drawn;
+      read_fault = read;
+      gave = gave;
+      bad_trace = bad;
+      write_fault = λ w. absurd (unwritten w);
+      untouched = λ a b. refl;
+      front = λ w. absurd (unwritten w);
+      end = at_end;
+      settled = λ p. cc (p, silent);
+      replies_form_one_history = λ p. cc (p, silent);
+    };
     detail = detail;
   }
 
   -- a run that has no lines
   pub stopped : {T : Type 0} (ended : Ended) (result : Result T Ended) → result ≡ Err ended → EndsReading c (left source) ended → GaveWithin (left source) (left source') result
       → (result ≡ Err e.ReadFault → Rose (source_faults source) (source_faults source')) → (ReadsToEnd result → is_reader c.job ≡ true → IsAtEnd (left source'))
-      → (is_reader c.job ≡ false → source' ≡ source) → Outcome (Some c) left source_faults taken sink_faults settled source source' sink sink (status_of ended) ended
+      → (is_reader c.job ≡ false → source' ≡ source) → EndsAs (Some c) reads unwritten_sink ended
   stopped (e.BadTrace refusal) result is ends gave fault at_end drawn =
       quiet (e.BadTrace refusal) refl (λ w. cc w) (λ u. cc u) drawn (λ r. cc r) (gives (left source) (left source') result s.BadTrace gave (λ t. cc t) (λ t. cc (t, is)))
       (λ b. invalid (left source) ends.0) (λ t. at_end (subst (λ (r : Result _ Ended). ReadsToEnd r) (sym is) tt)) (told (left source) ends.0)
@@ -88,7 +96,7 @@ module _ {S K : Type 0} (c : Choice) (left : S → Option (List ℕ)) (source_fa
 
   -- a run that has lines, and no memory for more
   pub out_of_memory : {T : Type 0} (lines : T) (result : Result T Ended) → result ≡ Ok lines → GaveWithin (left source) (left source') result
-      → (is_reader c.job ≡ false → source' ≡ source) → Outcome (Some c) left source_faults taken sink_faults settled source source' sink sink s.NoMemory e.NoMemory
+      → (is_reader c.job ≡ false → source' ≡ source) → EndsAs (Some c) reads unwritten_sink e.NoMemory
   out_of_memory lines result is gave drawn =
       quiet e.NoMemory refl (λ w. cc w) (λ u. cc u) drawn (λ r. cc r) (gives (left source) (left source') result s.NoMemory gave (λ t. cc t) (λ t. cc (t, is))) (λ b. cc b) (λ t. cc t) tt
 
@@ -118,6 +126,12 @@ module _ {S K : Type 0} (c : Choice) (left : S → Option (List ℕ)) (source_fa
     (at_end : is_reader c.job ≡ true → IsAtEnd (left source')) (drawn : is_reader c.job ≡ false → source' ≡ source)
     (trace : List Vector) (replies : List Reply) (history : History) (stats : Option Stats) (told : IsTraceFor c (left source) c.job trace)
     (agrees : Agrees (flag_count c.profile) trace replies c.workers c.block [] history (range_with_len 0 c.workers)) (of_mode : IsOfMode c.mode c trace replies history stats) where
+  abbrev reads_from : SourceStep S
+  reads_from = record { left = left; faults = source_faults; old = source; new = source' }
+
+  abbrev writes_to : SinkStep K
+  writes_to = record { taken = taken; faults = sink_faults; settled = settled; old = sink; new = sink' }
+
   run_of : Run (Some c) (left source)
   run_of = record { choice = c; trace = trace; replies = replies; history = history; stats = stats; chose = refl; some = some; read = told; agrees = agrees; of_mode = of_mode }
 
@@ -126,67 +140,73 @@ module _ {S K : Type 0} (c : Choice) (left : S → Option (List ℕ)) (source_fa
 
   -- a run that wrote its whole text
   whole : (ended : Ended) (text : List ℕ) → IsText c.job replies history stats text → Appends (taken sink) (taken sink') text → (n : ℕ) → count_by is_full replies ≡ n → ended ≡ ended_with_full n → settled sink' ≡ true
-      → Outcome (Some c) left source_faults taken sink_faults settled source source' sink sink' (status_of ended) ended
+      → EndsAs (Some c) reads_from writes_to ended
   unfolding run_of
-  whole ended text writes appends zero count ends settles = subst (λ (x : Ended). Outcome (Some c) left source_faults taken sink_faults settled source source' sink sink' (status_of x) x) (sym ends) (record {
-    usage = λ u. cc u;
-    refused_words = λ n. cc n;
-    unread = λ u. cc u;
-    drawn = drawn;
-    read_fault = λ r. cc r;
-    gave = within s.Done (λ t. cc t);
-    bad_trace = λ b. cc b;
-    write_fault = λ w. cc w;
-    untouched = λ a b. cc a;
-    front = λ w. cc w;
-    end = λ t. at_end;
-    settles = λ p. settles;
-    prints = λ p. record { run = run_of; text = text; is_text = writes; taken = appends; full = (λ f. cc f, λ f. let none = (any_full replies).0 count in cc (f, none)) };
+  whole ended text writes appends zero count ends settles = subst (λ (x : Ended). EndsAs (Some c) reads_from writes_to x) (sym ends) (record {
+    outcome = record {
+      usage = λ u. cc u;
+      refused_words = λ n. cc n;
+      unread = λ u. cc u;
+      drawn = drawn;
+      read_fault = λ r. cc r;
+      gave = within s.Done (λ t. cc t);
+      bad_trace = λ b. cc b;
+      write_fault = λ w. cc w;
+      untouched = λ a b. cc a;
+      front = λ w. cc w;
+      end = λ t. at_end;
+      settled = λ p. settles;
+      replies_form_one_history = λ p. record { run = run_of; text = text; is_text = writes; taken = appends; full = (λ f. cc f, λ f. let none = (any_full replies).0 count in cc (f, none)) };
+    };
     detail = tt;
   })
-  whole ended text writes appends (suc n) count ends settles = subst (λ (x : Ended). Outcome (Some c) left source_faults taken sink_faults settled source source' sink sink' (status_of x) x) (sym ends) (
+  whole ended text writes appends (suc n) count ends settles = subst (λ (x : Ended). EndsAs (Some c) reads_from writes_to x) (sym ends) (
       let printed : Prints (Some c) (left source) (taken sink) (taken sink') s.Full = record { run = run_of; text = text; is_text = writes; taken = appends; full = (λ f. (any_full replies).1 n count, λ f. refl) } in
       record {
-        usage = λ u. cc u;
-        refused_words = λ n. cc n;
-        unread = λ u. cc u;
-        drawn = drawn;
-        read_fault = λ r. cc r;
-        gave = within s.Full (λ t. cc t);
-        bad_trace = λ b. cc b;
-        write_fault = λ w. cc w;
-        untouched = λ a b. cc a;
-        front = λ w. cc w;
-        end = λ t. at_end;
-        settles = λ p. settles;
-        prints = λ p. printed;
+        outcome = record {
+          usage = λ u. cc u;
+          refused_words = λ n. cc n;
+          unread = λ u. cc u;
+          drawn = drawn;
+          read_fault = λ r. cc r;
+          gave = within s.Full (λ t. cc t);
+          bad_trace = λ b. cc b;
+          write_fault = λ w. cc w;
+          untouched = λ a b. cc a;
+          front = λ w. cc w;
+          end = λ t. at_end;
+          settled = λ p. settles;
+          replies_form_one_history = λ p. printed;
+        };
         detail = (printed, count);
       })
 
   -- a run that wrote a front of its text
   broken : (ended : Ended) (text : List ℕ) → IsText c.job replies history stats text → TakesFront (taken sink) (taken sink') text → ended ≡ e.WriteFault → Rose (sink_faults sink) (sink_faults sink')
-      → Outcome (Some c) left source_faults taken sink_faults settled source source' sink sink' (status_of ended) ended
+      → EndsAs (Some c) reads_from writes_to ended
   unfolding run_of
-  broken ended text writes front ends rose = subst (λ (x : Ended). Outcome (Some c) left source_faults taken sink_faults settled source source' sink sink' (status_of x) x) (sym ends) (record {
-    usage = λ u. cc u;
-    refused_words = λ n. cc n;
-    unread = λ u. cc u;
-    drawn = drawn;
-    read_fault = λ r. cc r;
-    gave = within s.WriteFault (λ t. cc t);
-    bad_trace = λ b. cc b;
-    write_fault = λ w. rose;
-    untouched = λ a b. absurd (b refl);
-    front = λ w. record { run = run_of; text = text; is_text = writes; taken = front };
-    end = λ t. at_end;
-    settles = λ p. cc p;
-    prints = λ p. cc p;
+  broken ended text writes front ends rose = subst (λ (x : Ended). EndsAs (Some c) reads_from writes_to x) (sym ends) (record {
+    outcome = record {
+      usage = λ u. cc u;
+      refused_words = λ n. cc n;
+      unread = λ u. cc u;
+      drawn = drawn;
+      read_fault = λ r. cc r;
+      gave = within s.WriteFault (λ t. cc t);
+      bad_trace = λ b. cc b;
+      write_fault = λ w. rose;
+      untouched = λ a b. absurd (b refl);
+      front = λ w. record { run = run_of; text = text; is_text = writes; taken = front };
+      end = λ t. at_end;
+      settled = λ p. cc p;
+      replies_form_one_history = λ p. cc p;
+    };
     detail = tt;
   })
 
   pub written_text : (ended : Ended) (text : List ℕ) → IsText c.job replies history stats text → WritesText text replies (taken sink) (taken sink') ended
       → (ended ≢ e.WriteFault → settled sink' ≡ true) → (ended ≡ e.WriteFault → Rose (sink_faults sink) (sink_faults sink'))
-      → Outcome (Some c) left source_faults taken sink_faults settled source source' sink sink' (status_of ended) ended
+      → EndsAs (Some c) reads_from writes_to ended
   written_text ended text is writes settles fault = ⊎_elim
       (λ (w : Appends (taken sink) (taken sink') text × (ended ≡ ended_with replies)).
       whole ended text is w.0 (count_by is_full replies) refl w.1 (settles (λ x. with_no_fault (count_by is_full replies) (sym w.1 ∙ x))))
@@ -198,5 +218,5 @@ module _ {S K : Type 0} (c : Choice) (left : S → Option (List ℕ)) (source_fa
       with_no_fault (suc n) x = cc x
 
   pub written : (ended : Ended) → c.job ≢ Distinct → WritesAnswers c.job replies stats (taken sink) (taken sink') ended → (ended ≢ e.WriteFault → settled sink' ≡ true) → (ended ≡ e.WriteFault → Rose (sink_faults sink) (sink_faults sink'))
-      → Outcome (Some c) left source_faults taken sink_faults settled source source' sink sink' (status_of ended) ended
+      → EndsAs (Some c) reads_from writes_to ended
   written ended other writes settles fault = written_text ended (text_of c.job replies stats) (is_text c.job replies history stats other) writes settles fault

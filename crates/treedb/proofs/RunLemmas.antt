@@ -9,32 +9,32 @@ use Rattle.command_line.specs.declared.outcome.Choice.{Choice}
 use Rattle.treedb.specs.Offered.{flag_count}
 use Rattle.command_line.specs.declared.outcome.Job.{Job}
 use Rattle.command_line.specs.declared.outcome.Job.TheVariants.{Distinct}
-use Rattle.treedb.specs.Run.{IsText, IsTextOf, PrintsTheLines, Run}
+use Rattle.treedb.specs.Run.{Headline, IsText, IsTextOf, PrintsTheLines, Run}
 use Rattle.treedb.proofs.NewLemmas.{trace-named}
 
 module _ (offer : Option Choice) (told : Option (List ℕ)) (run : Run offer told) where
   abbrev workers : List ℕ
   workers = range_with_len 0 run.choice.workers
 
-  pub run_equal : EqualLinesEqualIds run.trace run.replies
+  run_equal : EqualLinesEqualIds run.trace run.replies
   run_equal = equal-lines (flag_count run.choice.profile) run.trace run.replies run.choice.workers run.choice.block [] run.history workers run.agrees.among run.some
 
-  pub run_different : DifferentLinesDifferentIds run.trace run.replies
+  run_different : DifferentLinesDifferentIds run.trace run.replies
   run_different = different-lines (flag_count run.choice.profile) run.trace run.replies run.choice.workers run.choice.block [] run.history workers run.agrees.among run.some
 
-  pub run_names : CountsNames run.replies run.history
+  run_names : CountsNames run.replies run.history
   run_names = counts-names (flag_count run.choice.profile) run.trace run.replies run.choice.workers run.choice.block run.history workers run.agrees run.some
 
-  pub run_once : EachNewOnce run.trace run.replies
+  run_once : EachNewOnce run.trace run.replies
   run_once = each-new-once (flag_count run.choice.profile) run.trace run.replies run.choice.workers run.choice.block run.history workers run.agrees run.some
 
-  pub run_distinct : CountsDistinct run.trace run.replies
+  run_distinct : CountsDistinct run.trace run.replies
   run_distinct = counts-distinct (flag_count run.choice.profile) run.trace run.replies run.choice.workers run.choice.block run.history workers run.agrees run.some
 
-  pub run_keeps : KeepsNames (flag_count run.choice.profile) run.history
+  run_keeps : KeepsNames (flag_count run.choice.profile) run.history
   run_keeps = keeps-names (flag_count run.choice.profile) run.history
 
-  pub run_lines : (text : List ℕ) → IsTextOf run text → PrintsTheLines run text
+  run_lines : (text : List ℕ) → IsTextOf run text → PrintsTheLines run text
   run_lines text is_text job none =
       let printed : IsText Distinct run.replies run.history run.stats text = subst (λ (j : Job). IsText j run.replies run.history run.stats text) job is_text in
       let same = trace-named (flag_count run.choice.profile) run.trace run.replies run.choice.workers run.choice.block run.history workers run.agrees run.some none in
@@ -46,3 +46,14 @@ module _ (offer : Option Choice) (told : Option (List ℕ)) (run : Run offer tol
         };
         written = printed.written;
       }
+
+  pub headline : (text : List ℕ) → IsTextOf run text → Headline run text
+  headline text is_text = record {
+    equal_lines_have_equal_identifiers = run_equal;
+    different_lines_have_different_identifiers = run_different;
+    printed_count_is_the_number_of_names = run_names;
+    each_distinct_line_is_new_exactly_once = run_once;
+    printed_count_is_the_number_of_distinct_lines = run_distinct;
+    names_are_kept_for_good = run_keeps;
+    printed_vectors_are_those_of_the_lines = run_lines text is_text;
+  }

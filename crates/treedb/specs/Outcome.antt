@@ -10,7 +10,7 @@ use Rattle.treedb.specs.Lines.{is_reader}
 use Rattle.trace_csv.specs.Output.{TakesFront}
 use Rattle.treedb.specs.Note.{note_text, status_of}
 use Rattle.treedb.specs.Reading.{IsRefusedFor}
-use Rattle.treedb.specs.Run.{GivesWithin, Prints, PrintsFront, is_printed, reads_to_end, valid_input}
+use Rattle.treedb.specs.Run.{GivesWithin, Headline, OfPrinted, Prints, PrintsFront, is_printed, reads_to_end, valid_input}
 use Rattle.treedb.specs.declared.ended.Ended.{Ended}
 use Rattle.treedb.specs.declared.ended.Ended.TheVariants as e
 
@@ -25,28 +25,70 @@ IsDetail offer told old new e.ReadFault = Unit {0}
 IsDetail offer told old new e.WriteFault = Unit {0}
 IsDetail offer told old new e.NoMemory = Unit {0}
 
+-- a source as contracts see it, before a run and after it
+pub record SourceStep (S : Type 0) : Type 0 where
+  pub left : S → Option (List ℕ)
+  pub faults : S → ℕ
+  pub old : S
+  pub new : S
+
+-- a sink likewise
+pub record SinkStep (K : Type 0) : Type 0 where
+  pub taken : K → Option (List ℕ)
+  pub faults : K → ℕ
+  pub settled : K → Bool
+  pub old : K
+  pub new : K
+
 -- a run of what is offered ended with this status, and left its source and its sink so
-pub record Outcome {S K : Type 0} (offer : Option Choice) (left : S → Option (List ℕ)) (source_faults : S → ℕ) (taken : K → Option (List ℕ)) (sink_faults : K → ℕ) (settled : K → Bool)
-    (source source' : S) (sink sink' : K) (status : Status) (ended : Ended) : Type 0 where
+pub record Outcome {S K : Type 0} (offer : Option Choice) (source : SourceStep S) (sink : SinkStep K) (status : Status) : Type 0 where
+  -- with `Done` or `Full` the sink took all of the text: that of replies to the lines, which form one history
+  pub replies_form_one_history : is_printed status ≡ true
+      → Prints offer (source.left source.old) (sink.taken sink.old) (sink.taken sink.new) status
+  pub settled : is_printed status ≡ true → sink.settled sink.new ≡ true
+  -- with `WriteFault` it took a front of the text, and with all else nothing
+  pub front : status ≡ s.WriteFault
+      → PrintsFront offer (source.left source.old) (sink.taken sink.old) (sink.taken sink.new)
+  pub write_fault : status ≡ s.WriteFault → Rose (sink.faults sink.old) (sink.faults sink.new)
+  pub untouched : is_printed status ≡ false → status ≢ s.WriteFault → sink.new ≡ sink.old
+  -- the words
   pub usage : status ≡ s.Usage → offer ≡ None
   pub refused_words : offer ≡ None → (status ≡ s.Usage) ⊎ (status ≡ s.NoMemory)
-  pub unread : status ≡ s.Usage → source' ≡ source
-  pub drawn : IfSome offer (λ c. is_reader c.job ≡ false → source' ≡ source)
-  pub read_fault : status ≡ s.ReadFault → Rose (source_faults source) (source_faults source')
-  pub gave : GivesWithin (left source) (left source') (status)
-  pub bad_trace : status ≡ s.BadTrace → IfSome (left source) (λ bytes. valid_input offer bytes ≡ None)
-  pub write_fault : status ≡ s.WriteFault → Rose (sink_faults sink) (sink_faults sink')
-  pub untouched : is_printed (status) ≡ false → status ≢ s.WriteFault → sink' ≡ sink
-  pub front : status ≡ s.WriteFault → PrintsFront offer (left source) (taken sink) (taken sink')
-  pub end : reads_to_end (status) ≡ true → IfSome offer (λ c. is_reader c.job ≡ true → IsAtEnd (left source'))
-  pub settles : is_printed (status) ≡ true → settled sink' ≡ true
-  pub prints : is_printed (status) ≡ true → Prints offer (left source) (taken sink) (taken sink') (status)
-  pub detail : IsDetail offer (left source) (taken sink) (taken sink') ended
+  -- the input is read to its end before it is looked at
+  pub end : reads_to_end status ≡ true → IfSome offer (λ c. is_reader c.job ≡ true → IsAtEnd (source.left source.new))
+  pub unread : status ≡ s.Usage → source.new ≡ source.old
+  pub drawn : IfSome offer (λ c. is_reader c.job ≡ false → source.new ≡ source.old)
+  pub read_fault : status ≡ s.ReadFault → Rose (source.faults source.old) (source.faults source.new)
+  pub gave : GivesWithin (source.left source.old) (source.left source.new) status
+  pub bad_trace : status ≡ s.BadTrace → IfSome (source.left source.old) (λ bytes. valid_input offer bytes ≡ None)
 
--- what the notes took is the note of such an end, or a front of it where a fault rose
-pub record NotesEnd (offer : Option Choice) (told old new notes_old notes_new : Option (List ℕ)) (faults_old faults_new : ℕ) (status : Status) : Type 0 where
+-- the same, and what is told beside the status
+pub record EndsAs {S K : Type 0} (offer : Option Choice) (source : SourceStep S) (sink : SinkStep K) (ended : Ended) : Type 0 where
+  pub outcome : Outcome offer source sink (status_of ended)
+  pub detail : IsDetail offer (source.left source.old) (sink.taken sink.old) (sink.taken sink.new) ended
+
+-- the notes took the text of an end, or a front of it where a fault rose
+pub record IsNoted {N : Type 0} (notes : SinkStep N) (ended : Ended) : Type 0 where
+  pub front : TakesFront (notes.taken notes.old) (notes.taken notes.new) (note_text ended)
+  pub exact : (Rose (notes.faults notes.old) (notes.faults notes.new) → ⊥)
+      → Appends (notes.taken notes.old) (notes.taken notes.new) (note_text ended)
+
+-- they took the note of some end with this status
+pub record IsNote {S K N : Type 0} (offer : Option Choice) (source : SourceStep S) (sink : SinkStep K) (notes : SinkStep N) (status : Status) : Type 0 where
   pub ended : Ended
   pub status_is : status ≡ status_of ended
-  pub detail : IsDetail offer told old new ended
-  pub front : TakesFront notes_old notes_new (note_text ended)
-  pub exact : (Rose faults_old faults_new → ⊥) → Appends notes_old notes_new (note_text ended)
+  pub detail : IsDetail offer (source.left source.old) (sink.taken sink.old) (sink.taken sink.new) ended
+  pub noted : IsNoted notes ended
+
+-- all that a run of what is offered leaves
+pub record RunEnds {S K N : Type 0} (offer : Option Choice) (source : SourceStep S) (sink : SinkStep K) (notes : SinkStep N) (status : Status) : Type 0 where
+  -- with `Done` or `Full`, of each run whose text the sink took
+  pub headline : is_printed status ≡ true
+      → OfPrinted offer (source.left source.old) (sink.taken sink.old) (sink.taken sink.new) (λ run text. Headline run text)
+  -- and that there is such a run, and what else became of source and sink
+  pub outcome : Outcome offer source sink status
+  -- the note of the end, which is handed on whole, but none for `Done`
+  pub note : IsNote offer source sink notes status
+  pub note_settled : status ≢ s.Done → (Rose (notes.faults notes.old) (notes.faults notes.new) → ⊥)
+      → notes.settled notes.new ≡ true
+  pub no_note : status ≡ s.Done → notes.new ≡ notes.old

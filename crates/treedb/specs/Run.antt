@@ -3,7 +3,9 @@ use Rattle.std.specs.Prelude.{◌≡◌, ◌<◌, ◌↔◌, ℕ, Bool, true, fa
 use Rattle.std.specs.Io.KnownBytes.{Consumes, Appends}
 use Rattle.std.specs.List.{list_any, range_with_len}
 use Rattle.tdb_base.specs.Agrees.{Agrees}
+use Rattle.tdb_base.specs.Headline.{CountsDistinct, CountsNames, DifferentLinesDifferentIds, EachNewOnce, EqualLinesEqualIds}
 use Rattle.tdb_base.specs.History.{Vector, History}
+use Rattle.tdb_base.specs.Legal.{KeepsNames}
 use Rattle.tdb_base.specs.Lines.{named}
 use Rattle.tdb_base.specs.Replies.{is_full}
 use Rattle.tdb_base.specs.declared.reply.Reply.{Reply}
@@ -82,6 +84,16 @@ IsTextOf run text = IsText run.choice.job run.replies run.history run.stats text
 -- where the job prints vectors and no line is full, they are those of the lines
 abbrev pub PrintsTheLines : {offer : Option Choice} {told : Option (List ℕ)} → Run offer told → List ℕ → Type 0
 PrintsTheLines run text = run.choice.job ≡ Distinct → list_any is_full run.replies ≡ false → IsSortedText run.trace text
+
+-- what holds of a run and its text
+pub record Headline {offer : Option Choice} {told : Option (List ℕ)} (run : Run offer told) (text : List ℕ) : Type 0 where
+  pub equal_lines_have_equal_identifiers : EqualLinesEqualIds run.trace run.replies
+  pub different_lines_have_different_identifiers : DifferentLinesDifferentIds run.trace run.replies
+  pub printed_count_is_the_number_of_names : CountsNames run.replies run.history
+  pub each_distinct_line_is_new_exactly_once : EachNewOnce run.trace run.replies
+  pub printed_count_is_the_number_of_distinct_lines : CountsDistinct run.trace run.replies
+  pub names_are_kept_for_good : KeepsNames (flag_count run.choice.profile) run.history
+  pub printed_vectors_are_those_of_the_lines : PrintsTheLines run text
 
 -- the sink took the text of a run, which is answered `Full` exactly where some line is full
 pub record Prints (offer : Option Choice) (told old new : Option (List ℕ)) (status : Status) : Type 0 where

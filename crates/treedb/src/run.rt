@@ -1,17 +1,11 @@
 //! What the program does.
-ghost use Rattle.std.specs.Prelude.{◌≡◌, ◌≢◌, ◌&&◌, ◌⊎◌, not, true, false, Some, None, IfNone, IfSome, map, string_bytes};
-ghost use Rattle.std.specs.Io.KnownBytes.{Appends, IsAtEnd};
+ghost use Rattle.std.specs.Prelude.{◌≡◌, ◌≢◌, ◌&&◌, not, true, false, Some, IfNone, IfSome, map, string_bytes};
 ghost use Rattle.tdb_base.specs.Causes.{Rose};
-ghost use Rattle.tdb_base.specs.Headline.{EqualLinesEqualIds, DifferentLinesDifferentIds, CountsNames, EachNewOnce, CountsDistinct};
-ghost use Rattle.tdb_base.specs.Legal.{KeepsNames};
-ghost use Rattle.trace_csv.specs.Output.{TakesFront};
 ghost use Rattle.command_line.specs.Rules.{is_compact};
 ghost use Rattle.command_line.specs.Valid.{IsValid};
-ghost use Rattle.treedb.specs.Lines.{is_reader};
-ghost use Rattle.treedb.specs.Note.{note_text, status_of};
-ghost use Rattle.treedb.specs.Offered.{flag_count, is_offered, offered, offered_plain};
-ghost use Rattle.treedb.specs.Outcome.{NotesEnd, Outcome};
-ghost use Rattle.treedb.specs.Run.{GivesWithin, OfPrinted, Prints, PrintsFront, PrintsTheLines, is_printed, reads_to_end, valid_input};
+ghost use Rattle.treedb.specs.Note.{status_of};
+ghost use Rattle.treedb.specs.Offered.{is_offered, offered, offered_plain};
+ghost use Rattle.treedb.specs.Outcome.{EndsAs, IsNoted, RunEnds};
 
 use crate::ended::Ended;
 use crate::input::take_trace;
@@ -36,7 +30,9 @@ fn answer_plain<R: Threads + Sync, S: Source, K: Sink, G: Gate>(
 ) -> Ended
     requires valid { IsValid choice.now }
     requires plain { choice.now.mode ≡ Mode.Plain }
-    ensures { Outcome (Some choice.now) S.left S.faults K.taken K.faults K.settled source.old source.new sink.old sink.new (status_of result) result }
+    ensures { EndsAs (Some choice.now)
+        (record { left = S.left; faults = S.faults; old = source.old; new = source.new })
+        (record { taken = K.taken; faults = K.faults; settled = K.settled; old = sink.old; new = sink.new }) result }
 {
     let trace = match take_trace(alloc, choice, source) {
         Ok(trace) => trace,
@@ -64,7 +60,9 @@ fn answer_pairs<S: Source, K: Sink, G: Gate>(
     requires job { choice.now.job ≡ Job.Insert }
     requires alone { choice.now.workers ≡ 1 }
     requires quiet { choice.now.stats ≡ false }
-    ensures { Outcome (Some choice.now) S.left S.faults K.taken K.faults K.settled source.old source.new sink.old sink.new (status_of result) result }
+    ensures { EndsAs (Some choice.now)
+        (record { left = S.left; faults = S.faults; old = source.old; new = source.new })
+        (record { taken = K.taken; faults = K.faults; settled = K.settled; old = sink.old; new = sink.new }) result }
 {
     let trace = match take_trace(alloc, choice, source) {
         Ok(trace) => trace,
@@ -85,7 +83,7 @@ fn is_plain(choice: &Choice) -> bool
 }
 
 // What words do in plain mode.
-fn answer_words<R: Threads + Sync, S: Source, K: Sink, G: Gate>(
+fn answer_plain_words<R: Threads + Sync, S: Source, K: Sink, G: Gate>(
     rt: &R,
     alloc: Global,
     words: &[String],
@@ -93,7 +91,9 @@ fn answer_words<R: Threads + Sync, S: Source, K: Sink, G: Gate>(
     sink: &mut K,
     gate: &G,
 ) -> Ended
-    ensures { Outcome (offered_plain (map string_bytes words.now)) S.left S.faults K.taken K.faults K.settled source.old source.new sink.old sink.new (status_of result) result }
+    ensures { EndsAs (offered_plain (map string_bytes words.now))
+        (record { left = S.left; faults = S.faults; old = source.old; new = source.new })
+        (record { taken = K.taken; faults = K.faults; settled = K.settled; old = sink.old; new = sink.new }) result }
 {
     let choice = match choose(alloc, words) {
         Ok(choice) => choice,
@@ -134,7 +134,9 @@ fn answer_compact<S: Source, K: Sink, G: Gate>(
     ensures other { IfNone result (offered (map string_bytes words.now) ≡ offered_plain (map string_bytes words.now)) }
     ensures unread { IfNone result (source.new ≡ source.old) }
     ensures unwritten { IfNone result (sink.new ≡ sink.old) }
-    ensures ended { IfSome result (λ ended. Outcome (offered (map string_bytes words.now)) S.left S.faults K.taken K.faults K.settled source.old source.new sink.old sink.new (status_of ended) ended) }
+    ensures ended { IfSome result (λ ended. EndsAs (offered (map string_bytes words.now))
+        (record { left = S.left; faults = S.faults; old = source.old; new = source.new })
+        (record { taken = K.taken; faults = K.faults; settled = K.settled; old = sink.old; new = sink.new }) ended) }
 {
     let choice = match choose(alloc, words) {
         Ok(choice) => choice,
@@ -153,8 +155,7 @@ fn answer_compact<S: Source, K: Sink, G: Gate>(
 // Writes the note of the end: the status.
 fn tell<N: Sink>(ended: Ended, notes: &mut N) -> Status
     ensures status { result ≡ status_of ended }
-    ensures front { TakesFront (N.taken notes.old) (N.taken notes.new) (note_text ended) }
-    ensures exact { (Rose (N.faults notes.old) (N.faults notes.new) → ⊥) → Appends (N.taken notes.old) (N.taken notes.new) (note_text ended) }
+    ensures noted { IsNoted (record { taken = N.taken; faults = N.faults; settled = N.settled; old = notes.old; new = notes.new }) ended }
     ensures settled { status_of ended ≢ Status.Done → (Rose (N.faults notes.old) (N.faults notes.new) → ⊥) → N.settled notes.new ≡ true }
     ensures done { status_of ended ≡ Status.Done → notes.new ≡ notes.old }
 {
@@ -177,47 +178,12 @@ pub fn run_plain<R: Threads + Sync, S: Source, K: Sink, N: Sink, G: Gate>(
     notes: &mut N,
     gate: &G,
 ) -> Status
-    ensures usage { result ≡ Status.Usage → offered_plain (map string_bytes words.now) ≡ None }
-    ensures refused_words { offered_plain (map string_bytes words.now) ≡ None → (result ≡ Status.Usage) ⊎ (result ≡ Status.NoMemory) }
-    ensures unread { result ≡ Status.Usage → source.new ≡ source.old }
-    ensures drawn { IfSome (offered_plain (map string_bytes words.now)) (λ choice. is_reader choice.job ≡ false → source.new ≡ source.old) }
-    ensures read_fault { result ≡ Status.ReadFault → Rose (S.faults source.old) (S.faults source.new) }
-    ensures gave { GivesWithin (S.left source.old) (S.left source.new) result }
-    ensures bad_trace { result ≡ Status.BadTrace → IfSome (S.left source.old) (λ bytes. valid_input (offered_plain (map string_bytes words.now)) bytes ≡ None) }
-    ensures write_fault { result ≡ Status.WriteFault → Rose (K.faults sink.old) (K.faults sink.new) }
-    ensures untouched { is_printed result ≡ false → result ≢ Status.WriteFault → sink.new ≡ sink.old }
-
-    // With `WriteFault` the sink took a front of the text.
-    ensures front { result ≡ Status.WriteFault → PrintsFront (offered_plain (map string_bytes words.now)) (S.left source.old) (K.taken sink.old) (K.taken sink.new) }
-
-    // The input is read to its end before it is looked at.
-    ensures end { reads_to_end result ≡ true → IfSome (offered_plain (map string_bytes words.now)) (λ choice. is_reader choice.job ≡ true → IsAtEnd (S.left source.new)) }
-
-    // With `Done` or `Full` the sink took all of the text: that of replies to the lines, which form one history. Of whatever history they form:
-    ensures settled { is_printed result ≡ true → K.settled sink.new ≡ true }
-    ensures replies_form_one_history { is_printed result ≡ true
-        → Prints (offered_plain (map string_bytes words.now)) (S.left source.old) (K.taken sink.old) (K.taken sink.new) result }
-    ensures equal_lines_have_equal_identifiers { is_printed result ≡ true
-        → OfPrinted (offered_plain (map string_bytes words.now)) (S.left source.old) (K.taken sink.old) (K.taken sink.new) (λ run text. EqualLinesEqualIds run.trace run.replies) }
-    ensures different_lines_have_different_identifiers { is_printed result ≡ true
-        → OfPrinted (offered_plain (map string_bytes words.now)) (S.left source.old) (K.taken sink.old) (K.taken sink.new) (λ run text. DifferentLinesDifferentIds run.trace run.replies) }
-    ensures printed_count_is_the_number_of_names { is_printed result ≡ true
-        → OfPrinted (offered_plain (map string_bytes words.now)) (S.left source.old) (K.taken sink.old) (K.taken sink.new) (λ run text. CountsNames run.replies run.history) }
-    ensures each_distinct_line_is_new_exactly_once { is_printed result ≡ true
-        → OfPrinted (offered_plain (map string_bytes words.now)) (S.left source.old) (K.taken sink.old) (K.taken sink.new) (λ run text. EachNewOnce run.trace run.replies) }
-    ensures printed_count_is_the_number_of_distinct_lines { is_printed result ≡ true
-        → OfPrinted (offered_plain (map string_bytes words.now)) (S.left source.old) (K.taken sink.old) (K.taken sink.new) (λ run text. CountsDistinct run.trace run.replies) }
-    ensures names_are_kept_for_good { is_printed result ≡ true
-        → OfPrinted (offered_plain (map string_bytes words.now)) (S.left source.old) (K.taken sink.old) (K.taken sink.new) (λ run text. KeepsNames (flag_count run.choice.profile) run.history) }
-    ensures printed_vectors_are_those_of_the_lines { is_printed result ≡ true
-        → OfPrinted (offered_plain (map string_bytes words.now)) (S.left source.old) (K.taken sink.old) (K.taken sink.new) (λ run text. PrintsTheLines run text) }
-
-    // The note of the end, which is handed on whole, but none for `Done`.
-    ensures note { NotesEnd (offered_plain (map string_bytes words.now)) (S.left source.old) (K.taken sink.old) (K.taken sink.new) (N.taken notes.old) (N.taken notes.new) (N.faults notes.old) (N.faults notes.new) result }
-    ensures note_settled { result ≢ Status.Done → (Rose (N.faults notes.old) (N.faults notes.new) → ⊥) → N.settled notes.new ≡ true }
-    ensures no_note { result ≡ Status.Done → notes.new ≡ notes.old }
+    ensures { RunEnds (offered_plain (map string_bytes words.now))
+        (record { left = S.left; faults = S.faults; old = source.old; new = source.new })
+        (record { taken = K.taken; faults = K.faults; settled = K.settled; old = sink.old; new = sink.new })
+        (record { taken = N.taken; faults = N.faults; settled = N.settled; old = notes.old; new = notes.new }) result }
 {
-    let ended = answer_words(rt, alloc, words, source, sink, gate);
+    let ended = answer_plain_words(rt, alloc, words, source, sink, gate);
     tell(ended, notes)
 }
 
@@ -234,45 +200,10 @@ pub fn run<R: Threads + Wait + Sync, S: Source, K: Sink, N: Sink, G: Gate>(
     notes: &mut N,
     gate: &G,
 ) -> Status
-    ensures usage { result ≡ Status.Usage → offered (map string_bytes words.now) ≡ None }
-    ensures refused_words { offered (map string_bytes words.now) ≡ None → (result ≡ Status.Usage) ⊎ (result ≡ Status.NoMemory) }
-    ensures unread { result ≡ Status.Usage → source.new ≡ source.old }
-    ensures drawn { IfSome (offered (map string_bytes words.now)) (λ choice. is_reader choice.job ≡ false → source.new ≡ source.old) }
-    ensures read_fault { result ≡ Status.ReadFault → Rose (S.faults source.old) (S.faults source.new) }
-    ensures gave { GivesWithin (S.left source.old) (S.left source.new) result }
-    ensures bad_trace { result ≡ Status.BadTrace → IfSome (S.left source.old) (λ bytes. valid_input (offered (map string_bytes words.now)) bytes ≡ None) }
-    ensures write_fault { result ≡ Status.WriteFault → Rose (K.faults sink.old) (K.faults sink.new) }
-    ensures untouched { is_printed result ≡ false → result ≢ Status.WriteFault → sink.new ≡ sink.old }
-
-    // With `WriteFault` the sink took a front of the text.
-    ensures front { result ≡ Status.WriteFault → PrintsFront (offered (map string_bytes words.now)) (S.left source.old) (K.taken sink.old) (K.taken sink.new) }
-
-    // The input is read to its end before it is looked at.
-    ensures end { reads_to_end result ≡ true → IfSome (offered (map string_bytes words.now)) (λ choice. is_reader choice.job ≡ true → IsAtEnd (S.left source.new)) }
-
-    // With `Done` or `Full` the sink took all of the text: that of replies to the lines, which form one history. Of whatever history they form:
-    ensures settled { is_printed result ≡ true → K.settled sink.new ≡ true }
-    ensures replies_form_one_history { is_printed result ≡ true
-        → Prints (offered (map string_bytes words.now)) (S.left source.old) (K.taken sink.old) (K.taken sink.new) result }
-    ensures equal_lines_have_equal_identifiers { is_printed result ≡ true
-        → OfPrinted (offered (map string_bytes words.now)) (S.left source.old) (K.taken sink.old) (K.taken sink.new) (λ run text. EqualLinesEqualIds run.trace run.replies) }
-    ensures different_lines_have_different_identifiers { is_printed result ≡ true
-        → OfPrinted (offered (map string_bytes words.now)) (S.left source.old) (K.taken sink.old) (K.taken sink.new) (λ run text. DifferentLinesDifferentIds run.trace run.replies) }
-    ensures printed_count_is_the_number_of_names { is_printed result ≡ true
-        → OfPrinted (offered (map string_bytes words.now)) (S.left source.old) (K.taken sink.old) (K.taken sink.new) (λ run text. CountsNames run.replies run.history) }
-    ensures each_distinct_line_is_new_exactly_once { is_printed result ≡ true
-        → OfPrinted (offered (map string_bytes words.now)) (S.left source.old) (K.taken sink.old) (K.taken sink.new) (λ run text. EachNewOnce run.trace run.replies) }
-    ensures printed_count_is_the_number_of_distinct_lines { is_printed result ≡ true
-        → OfPrinted (offered (map string_bytes words.now)) (S.left source.old) (K.taken sink.old) (K.taken sink.new) (λ run text. CountsDistinct run.trace run.replies) }
-    ensures names_are_kept_for_good { is_printed result ≡ true
-        → OfPrinted (offered (map string_bytes words.now)) (S.left source.old) (K.taken sink.old) (K.taken sink.new) (λ run text. KeepsNames (flag_count run.choice.profile) run.history) }
-    ensures printed_vectors_are_those_of_the_lines { is_printed result ≡ true
-        → OfPrinted (offered (map string_bytes words.now)) (S.left source.old) (K.taken sink.old) (K.taken sink.new) (λ run text. PrintsTheLines run text) }
-
-    // The note of the end, which is handed on whole, but none for `Done`.
-    ensures note { NotesEnd (offered (map string_bytes words.now)) (S.left source.old) (K.taken sink.old) (K.taken sink.new) (N.taken notes.old) (N.taken notes.new) (N.faults notes.old) (N.faults notes.new) result }
-    ensures note_settled { result ≢ Status.Done → (Rose (N.faults notes.old) (N.faults notes.new) → ⊥) → N.settled notes.new ≡ true }
-    ensures no_note { result ≡ Status.Done → notes.new ≡ notes.old }
+    ensures { RunEnds (offered (map string_bytes words.now))
+        (record { left = S.left; faults = S.faults; old = source.old; new = source.new })
+        (record { taken = K.taken; faults = K.faults; settled = K.settled; old = sink.old; new = sink.new })
+        (record { taken = N.taken; faults = N.faults; settled = N.settled; old = notes.old; new = notes.new }) result }
 {
     match answer_compact(alloc, words, source, sink, gate) {
         Some(ended) => tell(ended, notes),

@@ -1,25 +1,7 @@
-use Rattle.std.proofs.Common.{map, string_bytes}
-use Rattle.treedb.specs.Offered.{offered_plain}
-use Rattle.treedb.proofs.RunLemmas.{run_different, run_distinct, run_equal, run_keeps, run_lines, run_names, run_once}
+use Rattle.treedb.proofs.Ending.{run_ends}
 use Rattle.treedb.proofs.run.run_plain.Goals as goal
 
-pub returns-clause-equal_lines_have_equal_identifiers : goal.returns-clause-equal_lines_have_equal_identifiers
-returns-clause-equal_lines_have_equal_identifiers g c = λ printed run text is_text taken. run_equal (offered_plain (map string_bytes c.args.words.now)) (g.S.Source.left c.args.source.now) run
-
-pub returns-clause-different_lines_have_different_identifiers : goal.returns-clause-different_lines_have_different_identifiers
-returns-clause-different_lines_have_different_identifiers g c = λ printed run text is_text taken. run_different (offered_plain (map string_bytes c.args.words.now)) (g.S.Source.left c.args.source.now) run
-
-pub returns-clause-printed_count_is_the_number_of_names : goal.returns-clause-printed_count_is_the_number_of_names
-returns-clause-printed_count_is_the_number_of_names g c = λ printed run text is_text taken. run_names (offered_plain (map string_bytes c.args.words.now)) (g.S.Source.left c.args.source.now) run
-
-pub returns-clause-each_distinct_line_is_new_exactly_once : goal.returns-clause-each_distinct_line_is_new_exactly_once
-returns-clause-each_distinct_line_is_new_exactly_once g c = λ printed run text is_text taken. run_once (offered_plain (map string_bytes c.args.words.now)) (g.S.Source.left c.args.source.now) run
-
-pub returns-clause-printed_count_is_the_number_of_distinct_lines : goal.returns-clause-printed_count_is_the_number_of_distinct_lines
-returns-clause-printed_count_is_the_number_of_distinct_lines g c = λ printed run text is_text taken. run_distinct (offered_plain (map string_bytes c.args.words.now)) (g.S.Source.left c.args.source.now) run
-
-pub returns-clause-names_are_kept_for_good : goal.returns-clause-names_are_kept_for_good
-returns-clause-names_are_kept_for_good g c = λ printed run text is_text taken. run_keeps (offered_plain (map string_bytes c.args.words.now)) (g.S.Source.left c.args.source.now) run
-
-pub returns-clause-printed_vectors_are_those_of_the_lines : goal.returns-clause-printed_vectors_are_those_of_the_lines
-returns-clause-printed_vectors_are_those_of_the_lines g c = λ printed run text is_text taken. run_lines (offered_plain (map string_bytes c.args.words.now)) (g.S.Source.left c.args.source.now) run text is_text
+pub returns : goal.returns
+returns g c =
+    let told = c.tell.ensures in
+    run_ends _ _ _ _ c.answer_plain_words-ended.result c.tell.result c.answer_plain_words-ended.ensures told.status told.noted told.settled told.done
