@@ -19,8 +19,10 @@ pub record IsRead {T : Type 0} (part : Part T) (id : ℕ) (out : Vector) (old ne
   pub no_call : Advanced part [] (view old) (view new)
   pub puts_none : PutsNone old new
 
--- the vector with the identifier was found by one call and read, or the identifier is no name's, and the vector is as it was
-pub record IsLookedUp {T : Type 0} (part : Part T) (id : ℕ) (found : Bool) (before out : Vector) (old new : PassOf T) : Type 0 where
+-- the vector with the identifier was found by one call and read, or the identifier is no name's, and the
+-- vector is as it was
+pub record IsLookedUp {T : Type 0} (part : Part T) (id : ℕ) (found : Bool) (before out : Vector)
+    (old new : PassOf T) : Type 0 where
   pub call_is : found ≡ true → Advanced part (call (view old).number false out id ∷ []) (view old) (view new)
   pub no_name : found ≡ false → IsNoName id (view new).seen
   pub no_call : found ≡ false → Advanced part [] (view old) (view new)

@@ -34,7 +34,8 @@ module _ {T : Type 0} (part : Part T) where
       (q : PassOf T) → AtRest part store q → IsPart (view p).known (view q).known
       → IsPart (root_pairs part (view p)) (root_pairs part (view q)) → name_of (view q).seen v ≡ None
 
-  -- the view w is v after it has caught up with some history and then made these calls; it may have put nodes before
+  -- the view w is v after it has caught up with some history and then made these calls; it may have put nodes
+  -- before
   pub record Advanced (more : History) (v w : View T) : Type 0 where
     pub log : History
     pub seen : w.seen ≡ log ++ more
@@ -54,7 +55,8 @@ module _ {T : Type 0} (part : Part T) where
   -- the vector has a root pair for which there is no place
   abbrev pub HasBlockedRoot : About → View T → Vector → Type 0
   HasBlockedRoot about v vector =
-      (pair : ℕ) × RootStands about.width about.slots v.known pair vector × part.is_full about (root_pairs part v) pair
+      (pair : ℕ) × RootStands about.width about.slots v.known pair vector
+      × part.is_full about (root_pairs part v) pair
 
 module _ {T : Type 0} where
   -- the tree that was put is the last one
@@ -73,7 +75,8 @@ module _ {T : Type 0} where
     pub tree : new.last_tree ≡ old.last_tree
     pub vector : last_vector new ≡ last_vector old
 
--- What an insertion of a vector leaves of a pass, where it puts the nodes in which the vector differs from a last one.
+-- What an insertion of a vector leaves of a pass, where it puts the nodes in which the vector differs from a
+-- last one.
 module _ {T : Type 0} (part : Part T) (store : Store) (last : Option Vector) (vector : Vector) where
   -- the vector has a name, by one call that gave or found it, and its tree is the last one
   pub record IsNamed (fresh : Bool) (id : ℕ) (old new : PassOf T) : Type 0 where
@@ -90,7 +93,8 @@ module _ {T : Type 0} (part : Part T) (store : Store) (last : Option Vector) (ve
     pub last_stays : KeepsLastTree old new
     pub for_good : NeverNamed part store new vector
 
-  -- the vector's root has no place: no call was made, the tree's nodes stay, and the vector gets no name for good
+  -- the vector's root has no place: no call was made, the tree's nodes stay, and the vector gets no name for
+  -- good
   pub record IsFullAtRoot (old new : PassOf T) : Type 0 where
     pub blocked : HasBlockedRoot part store.about (view new) vector
     pub no_call : Advanced part [] (view old) (view new)
@@ -106,7 +110,8 @@ module _ {T : Type 0} (part : Part T) (store : Store) (last : Option Vector) (ve
   IsAnswered r.FullNodes old new = IsFullInside old new
   IsAnswered r.FullRoots old new = IsFullAtRoot old new
 
--- a step was counted for each node that had to be put, and for the root; where a node had no place, for those up to it
+-- a step was counted for each node that had to be put, and for the root; where a node had no place, for those
+-- up to it
 abbrev pub AreTicked : ℕ → Reply → Option ℕ → Option ℕ → Type 0
 AreTicked puts (r.New id) old new = new ≡ raised (puts + 1) old
 AreTicked puts (r.Seen id) old new = new ≡ raised (puts + 1) old

@@ -1,5 +1,7 @@
 -- Vectors of a store, and the trees that keep them.
-use Rattle.std.specs.Prelude.{◌≡◌, ℕ, zero, suc, ◌+◌, ◌-◌, ◌*◌, ◌^◌, ◌<◌, ◌≤◌, List, ◌++◌, All, Option, Some, None, Bool, false, length, drop, slice_index, slice_index_or, option_map, if◌then◌else◌}
+use Rattle.std.specs.Prelude.{◌≡◌, ℕ, zero, suc, ◌+◌, ◌-◌, ◌*◌, ◌^◌, ◌<◌, ◌≤◌, List, ◌++◌, All, Option, Some}
+use Rattle.std.specs.Prelude.{None, Bool, false, length, drop, slice_index, slice_index_or, option_map}
+use Rattle.std.specs.Prelude.{if◌then◌else◌}
 use Rattle.tree_shape.specs.Tree.{Has, Stands, RootStands}
 use Rattle.tree_shape.specs.Changed.{IsChanged, IsMarked, marked_count, changed_count}
 use Rattle.tdb_base.specs.History.{Vector}
@@ -36,9 +38,11 @@ marks_from position marks = marked_count (drop position marks)
 
 -- the index stands for a part of the vector at an inner position of its tree
 abbrev pub IsInTree : About → List (ℕ × ℕ) → Vector → ℕ → Type 0
-IsInTree about nodes v index = (position : ℕ) × (2 ≤ position) × (position < about.slots) × Stands about.width about.slots nodes v position index
+IsInTree about nodes v index = (position : ℕ) × (2 ≤ position) × (position < about.slots)
+    × Stands about.width about.slots nodes v position index
 
--- at some inner position of the vector's tree a pair belongs for which there is no place: its whole path has other pairs
+-- at some inner position of the vector's tree a pair belongs for which there is no place: its whole path has
+-- other pairs
 pub record IsBlockedInside (about : About) (nodes : List (ℕ × ℕ)) (v : Vector) : Type 0 where
   pub position : ℕ
   pub inner : (2 ≤ position) × (position < about.slots)
@@ -50,9 +54,11 @@ pub record IsBlockedInside (about : About) (nodes : List (ℕ × ℕ)) (v : Vect
 
 -- the vector's root pair is one for which there is no place among the roots
 abbrev pub IsBlockedRoot : About → List (ℕ × ℕ) → (ℕ → Type 0) → Vector → Type 0
-IsBlockedRoot about nodes IsBlocked v = (pair : ℕ) × RootStands about.width about.slots nodes pair v × IsBlocked pair
+IsBlockedRoot about nodes IsBlocked v = (pair : ℕ) × RootStands about.width about.slots nodes pair v
+    × IsBlocked pair
 
--- how many inner positions a vector's tree has to be put at: those above a slot in which it differs from the last vector, or all
+-- how many inner positions a vector's tree has to be put at: those above a slot in which it differs from the
+-- last vector, or all
 abbrev pub puts_after : About → Option Vector → Vector → ℕ
 puts_after about (Some last) v = changed_count about.slots last v
 puts_after about None v = about.slots - 2
@@ -60,7 +66,8 @@ puts_after about None v = about.slots - 2
 -- at each inner position that is not marked the vector in a new tree has the slots below that the old one has
 abbrev pub MarksChanges : About → List Bool → List ℕ → List ℕ → Type 0
 MarksChanges about marks last next =
-    (position : ℕ) → 2 ≤ position → position < about.slots → (IsMarked marks position → ⊥) → IsChanged about.slots (drop about.slots last) (drop about.slots next) position → ⊥
+    (position : ℕ) → 2 ≤ position → position < about.slots → (IsMarked marks position → ⊥)
+    → IsChanged about.slots (drop about.slots last) (drop about.slots next) position → ⊥
 
 -- the vector in the slots of a tree
 abbrev pub slots_of : About → List ℕ → Vector
@@ -68,11 +75,13 @@ slots_of about tree = drop about.slots tree
 
 -- the tree that is being put stands at the positions from this one on
 abbrev pub StandsFrom : About → Vector → ℕ → List (ℕ × ℕ) → List ℕ → Type 0
-StandsFrom about v first nodes tree = (position : ℕ) → first ≤ position → position < 2 * about.slots → Stands about.width about.slots nodes v position (slice_index tree position)
+StandsFrom about v first nodes tree = (position : ℕ) → first ≤ position → position < 2 * about.slots
+    → Stands about.width about.slots nodes v position (slice_index tree position)
 
 -- the tree that is being read stands at the positions before this one
 abbrev pub StandsTo : About → Vector → ℕ → List (ℕ × ℕ) → List ℕ → Type 0
-StandsTo about v end nodes tree = (position : ℕ) → 2 ≤ position → position < end → Stands about.width about.slots nodes v position (slice_index tree position)
+StandsTo about v end nodes tree = (position : ℕ) → 2 ≤ position → position < end
+    → Stands about.width about.slots nodes v position (slice_index tree position)
 
 module _ {T : Type 0} where
   -- the new view put some nodes of the vector's tree, at most so many, and no others
@@ -103,4 +112,10 @@ module _ {T : Type 0} where
 
   -- all of the pass but its view, its count of nodes and its scratch is as it was
   abbrev pub KeepsLast : PassOf T → PassOf T → Type 0
-  KeepsLast old new = new ≡ record old { seat = new.seat; nodes_count = new.nodes_count; next_tree = new.next_tree; marks = new.marks }
+  KeepsLast old new = new ≡ record old {
+    seat = new.seat;
+    nodes_count = new.nodes_count;
+    next_tree =
+        new.next_tree;
+    marks = new.marks;
+  }

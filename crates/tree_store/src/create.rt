@@ -17,7 +17,8 @@ use tree_shape::Shape;
 /// Why there is no such store.
 #[derive(Clone, Copy, Debug, PartialEq, Eq)]
 pub enum CreateError {
-    /// A size is out of its range, the first of: 1 the nodes, 2 the roots, 3 a region of compact roots, 4 the lines of a path.
+    /// A size is out of its range, the first of: 1 the nodes, 2 the roots, 3 a region of compact roots, 4 the
+    /// lines of a path.
     Sizes(u32),
     /// Memory ran out.
     NoMemory,
@@ -43,7 +44,8 @@ fn probe_fits(sizes: &Sizes) -> bool
 
 // The number of the first size that is out of its range.
 fn first_out<const W: u32>(sizes: &Sizes) -> Option<u32>
-    ensures { MatchOption result (NodesFit W sizes.now × RootsFit sizes.now × ProbeFits sizes.now) (IsFirstOut W sizes.now) }
+    ensures { MatchOption result (NodesFit W sizes.now × RootsFit sizes.now × ProbeFits sizes.now)
+        (IsFirstOut W sizes.now) }
 {
     if !nodes_fit::<W>(sizes) {
         return Some(1);
@@ -60,8 +62,9 @@ fn first_out<const W: u32>(sizes: &Sizes) -> Option<u32>
 impl<const W: u32, const F: u32> TreeStore<PlainRoot<W, F>, W, F> {
     /// A store without vectors, and its first pass, which has the number 0.
     ///
-    /// The nodes have `2^nodes` buckets with `nodes` from 3 to 25 and at most `W`, the roots `2^roots` with `roots` from 3 to 24, and `probe` is 1 to 4194304;
-    /// `region` is not looked at. `CreateError::Sizes` says which size is the first out of its range, and comes before `NoMemory`.
+    /// The nodes have `2^nodes` buckets with `nodes` from 3 to 25 and at most `W`, the roots `2^roots` with
+    /// `roots` from 3 to 24, and `probe` is 1 to 4194304; `region` is not looked at. `CreateError::Sizes`
+    /// says which size is the first out of its range, and comes before `NoMemory`.
     pub fn create(
         alloc: Global,
         shape: Shape,

@@ -21,7 +21,8 @@ fn all_below<const W: u32>(vector: &[u32]) -> bool
 impl<R: RootPart<W, F>, const W: u32, const F: u32> TreeStore<R, W, F> {
     /// Whether the store can keep the vector: it has the store's slots, each below `2^W`.
     pub fn fits(&self, vector: &[u32]) -> bool
-        ensures { IsTrue result ↔ IsVector self.now.about vector.now }
+        ensures vector { IsTrue result ↔ IsVector self.now.about vector.now }
+        ensures width { self.now.about.width ≡ W }
     {
         let shape = &self.shape;
         vector.len() == shape.slots() && all_below::<W>(vector)

@@ -29,7 +29,12 @@ fn fill_slots<T>(pass: &mut PassOf<T>, slots: usize, vector: &[u32])
 
 // The tree that was put is the last one from now on.
 fn keep_tree<T>(pass: &mut PassOf<T>)
-    ensures { pass.new ≡ record pass.old { last_tree = pass.old.next_tree; next_tree = pass.old.last_tree; has_last = true } }
+    ensures { pass.new ≡ record pass.old {
+      last_tree = pass.old.next_tree;
+      next_tree =
+          pass.old.last_tree;
+      has_last = true;
+    } }
 {
     mem::swap(&mut pass.last_tree, &mut pass.next_tree);
     pass.has_last = true;
@@ -46,17 +51,19 @@ fn reply(fresh: bool, id: u64) -> Reply
     }
 }
 
-// Puts the root of the vector whose inner nodes all stand in the tree that was put, which becomes the last one if there
-// was a place.
+// Puts the root of the vector whose inner nodes all stand in the tree that was put, which becomes the last
+// one if there was a place.
 fn put_tree_root<D: RootTable<W, F>, L: Ledger, const W: u32, const F: u32>(
     roots: &D,
     pass: &mut Pass<D::Part, W, F>,
     steps: &mut Steps<L>,
 ) -> Reply
     requires rest { AtRest D.Part.part (D.store roots.now) pass.old }
-    requires vector { IsVector (D.store roots.now).about (slots_of (D.store roots.now).about pass.old.next_tree.items) }
+    requires vector { IsVector (D.store roots.now).about
+        (slots_of (D.store roots.now).about pass.old.next_tree.items) }
     requires stands { let about = (D.store roots.now).about in
-        StandsFrom about (slots_of about pass.old.next_tree.items) 2 (view pass.old).known pass.old.next_tree.items }
+        StandsFrom about (slots_of about pass.old.next_tree.items) 2
+        (view pass.old).known pass.old.next_tree.items }
     ensures rest { AtRest D.Part.part (D.store roots.now) pass.new }
     ensures answered { RootIsAnswered D.Part.part (D.store roots.now)
         (slots_of (D.store roots.now).about pass.old.next_tree.items) result pass.old pass.new }
@@ -73,7 +80,8 @@ fn put_tree_root<D: RootTable<W, F>, L: Ledger, const W: u32, const F: u32>(
     }
 }
 
-// Inserts the vector: its slots, its inner nodes (all, or only those that the last tree doesn't have), and its root.
+// Inserts the vector: its slots, its inner nodes (all, or only those that the last tree doesn't have), and
+// its root.
 fn put_vector<D: RootTable<W, F>, L: Ledger, const W: u32, const F: u32>(
     roots: &D,
     nodes: &Nodes<D::Part, W, F>,
@@ -88,7 +96,8 @@ fn put_vector<D: RootTable<W, F>, L: Ledger, const W: u32, const F: u32>(
     requires rest { AtRest D.Part.part nodes.now pass.old }
     requires vector { IsVector nodes.now.about vector.now }
     ensures rest { AtRest D.Part.part nodes.now pass.new }
-    ensures answered { IsAnswered D.Part.part nodes.now (compared from_last pass.old) vector.now result pass.old pass.new }
+    ensures answered { IsAnswered D.Part.part nodes.now
+        (compared from_last pass.old) vector.now result pass.old pass.new }
     ensures ticks { AreTicked (puts_after nodes.now.about (compared from_last pass.old) vector.now) result
         (L.count steps.old) (L.count steps.new) }
 {
@@ -99,8 +108,9 @@ fn put_vector<D: RootTable<W, F>, L: Ledger, const W: u32, const F: u32>(
     put_tree_root(roots, pass, steps)
 }
 
-/// Gives the vector a name, or finds its name, through a store's root table. Only those inner nodes are put below which
-/// the vector differs from that of the pass's last tree, if it has one: `TreeStore::insert_from` over any root table.
+/// Gives the vector a name, or finds its name, through a store's root table. Only those inner nodes are put
+/// below which the vector differs from that of the pass's last tree, if it has one: `TreeStore::insert_from`
+/// over any root table.
 pub fn insert_from_last<D: RootTable<W, F>, L: Ledger, const W: u32, const F: u32>(
     roots: &D,
     store: &TreeStore<D::Part, W, F>,
@@ -112,7 +122,8 @@ pub fn insert_from_last<D: RootTable<W, F>, L: Ledger, const W: u32, const F: u3
     requires rest { AtRest D.Part.part store.now pass.old }
     requires vector { IsVector store.now.about vector.now }
     ensures rest { AtRest D.Part.part store.now pass.new }
-    ensures answered { IsAnswered D.Part.part store.now (last_vector pass.old) vector.now result pass.old pass.new }
+    ensures answered { IsAnswered D.Part.part store.now
+        (last_vector pass.old) vector.now result pass.old pass.new }
     ensures ticks { AreTicked (puts_after store.now.about (last_vector pass.old) vector.now) result
         (L.count steps.old) (L.count steps.new) }
 {
@@ -122,15 +133,15 @@ pub fn insert_from_last<D: RootTable<W, F>, L: Ledger, const W: u32, const F: u3
 }
 
 impl<const W: u32, const F: u32> TreeStore<PlainRoot<W, F>, W, F> {
-    /// Gives the vector a name, or finds its name. It puts all inner nodes of the vector's tree, from the last position
-    /// down, and then the root.
+    /// Gives the vector a name, or finds its name. It puts all inner nodes of the vector's tree, from the
+    /// last position down, and then the root.
     ///
-    /// The vector fits the store: it has the store's slots, each below `2^W`. With `New` and `Seen` the answer is one call
-    /// of the store's history, at one atomic step; the pass has then seen that history up to it, its last tree is this
-    /// vector's, and a step was counted for each inner position and for the root. `FullNodes` comes only where on the path
-    /// of some pair of the tree each bucket has another pair, `FullRoots` only where this is so of the root: then the
-    /// vector never gets a name, no call is made, the last tree stays, and nodes that were put before stay. It waits for
-    /// nobody and takes no memory.
+    /// The vector fits the store: it has the store's slots, each below `2^W`. With `New` and `Seen` the
+    /// answer is one call of the store's history, at one atomic step; the pass has then seen that history up
+    /// to it, its last tree is this vector's, and a step was counted for each inner position and for the
+    /// root. `FullNodes` comes only where on the path of some pair of the tree each bucket has another pair,
+    /// `FullRoots` only where this is so of the root: then the vector never gets a name, no call is made, the
+    /// last tree stays, and nodes that were put before stay. It waits for nobody and takes no memory.
     pub fn insert<L: Ledger>(
         &self,
         pass: &mut PlainPass<W, F>,
@@ -157,8 +168,8 @@ impl<const W: u32, const F: u32> TreeStore<PlainRoot<W, F>, W, F> {
         )
     }
 
-    /// The same, but only those inner nodes are put below which the vector differs from that of the pass's last tree, if
-    /// it has one. A step is counted for each of these and for the root.
+    /// The same, but only those inner nodes are put below which the vector differs from that of the pass's
+    /// last tree, if it has one. A step is counted for each of these and for the root.
     pub fn insert_from<L: Ledger>(
         &self,
         pass: &mut PlainPass<W, F>,
@@ -168,7 +179,8 @@ impl<const W: u32, const F: u32> TreeStore<PlainRoot<W, F>, W, F> {
         requires rest { AtRest plain self.now pass.old }
         requires vector { IsVector self.now.about vector.now }
         ensures rest { AtRest plain self.now pass.new }
-        ensures answered { IsAnswered plain self.now (last_vector pass.old) vector.now result pass.old pass.new }
+        ensures answered { IsAnswered plain self.now
+            (last_vector pass.old) vector.now result pass.old pass.new }
         ensures ticks { AreTicked (puts_after self.now.about (last_vector pass.old) vector.now) result
             (L.count steps.old) (L.count steps.new) }
     {

@@ -1,4 +1,5 @@
-//! Vectors of 2 to 1024 slots, each kept as a balanced tree of pairs in one shared table (after Laarman, van de Pol and Weber 2011).
+//! Vectors of 2 to 1024 slots, each kept as a balanced tree of pairs in one shared table (after Laarman, van
+//! de Pol and Weber 2011).
 #![tactic(auto)]
 
 mod counts;

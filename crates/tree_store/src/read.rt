@@ -71,8 +71,8 @@ pub fn read_vector<D: RootTable<W, F>, const W: u32, const F: u32>(
 }
 
 impl<const W: u32, const F: u32> TreeStore<PlainRoot<W, F>, W, F> {
-    /// Puts the vector with this identifier into `out`, which has the store's slots. The pass has seen that the identifier
-    /// was given.
+    /// Puts the vector with this identifier into `out`, which has the store's slots. The pass has seen that
+    /// the identifier was given.
     ///
     /// It makes no call, puts no node and counts no step. It waits for nobody and takes no memory.
     pub fn read(&self, pass: &mut PlainPass<W, F>, id: u64, out: &mut [u32])
@@ -87,9 +87,9 @@ impl<const W: u32, const F: u32> TreeStore<PlainRoot<W, F>, W, F> {
 
     /// Puts the vector with this identifier into `out`, which has the store's slots, if it is some vector's.
     ///
-    /// True is one call of the store's history, made at one atomic step, which found the vector in `out`. False makes no
-    /// call, leaves `out`, and says that no vector has the identifier in the history that the pass has then seen. It waits
-    /// for nobody and takes no memory.
+    /// True is one call of the store's history, made at one atomic step, which found the vector in `out`.
+    /// False makes no call, leaves `out`, and says that no vector has the identifier in the history that the
+    /// pass has then seen. It waits for nobody and takes no memory.
     pub fn lookup(&self, pass: &mut PlainPass<W, F>, id: u64, out: &mut [u32]) -> bool
         requires rest { AtRest plain self.now pass.old }
         requires out { length out.old ≡ self.now.about.slots }

@@ -1,5 +1,6 @@
 //! A store of vectors.
 ghost use Rattle.std.specs.Prelude.{◌≡◌};
+ghost use Rattle.pair_rule.specs.Part.{IsTable};
 
 use pair_nodes::Nodes;
 use pair_rule::{Pass, RootPart};
@@ -29,7 +30,8 @@ impl<R: RootPart<W, F>, const W: u32, const F: u32> Model for TreeStore<R, W, F>
 impl<R: RootPart<W, F>, const W: u32, const F: u32> TreeStore<R, W, F> {
     /// The nodes, over which a root table is opened.
     pub fn nodes(&self) -> &Nodes<R, W, F>
-        ensures { result.now ≡ self.now }
+        ensures nodes { result.now ≡ self.now }
+        ensures store { IsTable W F R.part self.now }
     {
         &self.nodes
     }

@@ -1,17 +1,21 @@
 //! The inner nodes of a vector's tree, put from the last position down to position 2.
-ghost use Rattle.std.specs.Prelude.{◌≡◌, ℕ, ◌+◌, ◌-◌, ◌*◌, ◌^◌, ◌<◌, ◌≤◌, ◌↔◌, true, drop, length, IfOk, OnErr, option_map};
+ghost use Rattle.std.specs.Prelude.{◌≡◌, ℕ, ◌+◌, ◌-◌, ◌*◌, ◌^◌, ◌<◌, ◌≤◌, ◌↔◌, true, drop, length, IfOk};
+ghost use Rattle.std.specs.Prelude.{OnErr, option_map};
 ghost use Rattle.tree_shape.specs.Changed.{IsChanged, IsMarked, marked_count, changed_count};
 ghost use Rattle.tdb_base.specs.Fakes.{counted};
 ghost use Rattle.pair_rule.specs.Rest.{AtRest, view};
 ghost use Rattle.pair_nodes.specs.Probe.{Probed};
-ghost use Rattle.tree_store.specs.Vectors.{IsVector, slots_of, IsBlockedInside, StandsFrom, Building, Refused, raised, RaisedWithin, MarksChanges, mark_at, marks_from, KeepsLast, compared, puts_after};
+ghost use Rattle.tree_store.specs.Vectors.{IsVector, slots_of, IsBlockedInside, StandsFrom, Building};
+ghost use Rattle.tree_store.specs.Vectors.{Refused, raised, RaisedWithin, MarksChanges, mark_at, marks_from};
+ghost use Rattle.tree_store.specs.Vectors.{KeepsLast, compared, puts_after};
 
 use pair_nodes::Nodes;
 use pair_rule::{NodesFull, Pass, PassOf, RootPart};
 use tdb_base::{Ledger, Steps};
 use tree_shape::Shape;
 
-// Puts the node of the inner position `p` into the tree that is being put, whose later positions all stand for parts of the vector in its slots.
+// Puts the node of the inner position `p` into the tree that is being put, whose later positions all stand
+// for parts of the vector in its slots.
 #[inline]
 fn put_position<R: RootPart<W, F>, L: Ledger, const W: u32, const F: u32>(
     nodes: &Nodes<R, W, F>,
@@ -22,15 +26,23 @@ fn put_position<R: RootPart<W, F>, L: Ledger, const W: u32, const F: u32>(
     requires rest { AtRest R.part nodes.now pass.old }
     requires inner { (2 ≤ p) × (p < nodes.now.about.slots) }
     requires vector { IsVector nodes.now.about (slots_of nodes.now.about pass.old.next_tree.items) }
-    requires stands { StandsFrom nodes.now.about (slots_of nodes.now.about pass.old.next_tree.items) (p + 1) (view pass.old).known pass.old.next_tree.items }
+    requires stands { StandsFrom nodes.now.about (slots_of nodes.now.about pass.old.next_tree.items) (p + 1)
+        (view pass.old).known pass.old.next_tree.items }
     ensures rest { AtRest R.part nodes.now pass.new }
     ensures tick { L.count steps.new ≡ option_map counted (L.count steps.old) }
     ensures keeps { KeepsLast pass.old pass.new }
-    ensures vector { slots_of nodes.now.about pass.new.next_tree.items ≡ slots_of nodes.now.about pass.old.next_tree.items }
+    ensures vector { slots_of nodes.now.about pass.new.next_tree.items ≡ slots_of nodes.now.about
+        pass.old.next_tree.items }
     ensures marks { pass.new.marks ≡ pass.old.marks }
-    ensures stands { IfOk result (λ done. StandsFrom nodes.now.about (slots_of nodes.now.about pass.old.next_tree.items) p (view pass.new).known pass.new.next_tree.items) }
-    ensures put { IfOk result (λ done. Building nodes.now.about (slots_of nodes.now.about pass.old.next_tree.items) 1 (view pass.old) (view pass.new)) }
-    ensures full { OnErr result (IsBlockedInside nodes.now.about (view pass.new).known (slots_of nodes.now.about pass.old.next_tree.items)) }
+    ensures stands { IfOk result
+        (λ done. StandsFrom nodes.now.about (slots_of nodes.now.about pass.old.next_tree.items) p
+        (view pass.new).known pass.new.next_tree.items) }
+    ensures put { IfOk result
+        (λ done. Building nodes.now.about (slots_of nodes.now.about pass.old.next_tree.items) 1
+        (view pass.old) (view pass.new)) }
+    ensures full { OnErr result
+        (IsBlockedInside nodes.now.about (view pass.new).known
+        (slots_of nodes.now.about pass.old.next_tree.items)) }
     ensures full_puts_none { OnErr result (Probed 1 (view pass.old) (view pass.new)) }
 {
     let left = pass.next_tree[2 * p] as u64;
@@ -52,12 +64,16 @@ fn keep_position<R: RootPart<W, F>, const W: u32, const F: u32>(
     requires rest { AtRest R.part nodes.now pass.old }
     requires last { pass.old.has_last ≡ true }
     requires inner { (2 ≤ p) × (p < nodes.now.about.slots) }
-    requires same { IsChanged nodes.now.about.slots (slots_of nodes.now.about pass.old.last_tree.items) (slots_of nodes.now.about pass.old.next_tree.items) p → ⊥ }
-    requires stands { StandsFrom nodes.now.about (slots_of nodes.now.about pass.old.next_tree.items) (p + 1) (view pass.old).known pass.old.next_tree.items }
+    requires same { IsChanged nodes.now.about.slots (slots_of nodes.now.about pass.old.last_tree.items)
+        (slots_of nodes.now.about pass.old.next_tree.items) p → ⊥ }
+    requires stands { StandsFrom nodes.now.about (slots_of nodes.now.about pass.old.next_tree.items) (p + 1)
+        (view pass.old).known pass.old.next_tree.items }
     ensures rest { AtRest R.part nodes.now pass.new }
     ensures tree { pass.new ≡ record pass.old { next_tree = pass.new.next_tree } }
-    ensures vector { slots_of nodes.now.about pass.new.next_tree.items ≡ slots_of nodes.now.about pass.old.next_tree.items }
-    ensures stands { StandsFrom nodes.now.about (slots_of nodes.now.about pass.old.next_tree.items) p (view pass.old).known pass.new.next_tree.items }
+    ensures vector { slots_of nodes.now.about pass.new.next_tree.items ≡ slots_of nodes.now.about
+        pass.old.next_tree.items }
+    ensures stands { StandsFrom nodes.now.about (slots_of nodes.now.about pass.old.next_tree.items) p
+        (view pass.old).known pass.new.next_tree.items }
 {
     let _ = nodes;
     pass.next_tree[p] = pass.last_tree[p];
@@ -73,14 +89,22 @@ pub(crate) fn put_all<R: RootPart<W, F>, L: Ledger, const W: u32, const F: u32>(
     requires rest { AtRest R.part nodes.now pass.old }
     requires slots { slots ≡ nodes.now.about.slots }
     requires vector { IsVector nodes.now.about (slots_of nodes.now.about pass.old.next_tree.items) }
-    requires leaves { StandsFrom nodes.now.about (slots_of nodes.now.about pass.old.next_tree.items) slots (view pass.old).known pass.old.next_tree.items }
+    requires leaves { StandsFrom nodes.now.about (slots_of nodes.now.about pass.old.next_tree.items) slots
+        (view pass.old).known pass.old.next_tree.items }
     ensures rest { AtRest R.part nodes.now pass.new }
     ensures keeps { KeepsLast pass.old pass.new }
-    ensures vector { slots_of nodes.now.about pass.new.next_tree.items ≡ slots_of nodes.now.about pass.old.next_tree.items }
-    ensures stands { IfOk result (λ done. StandsFrom nodes.now.about (slots_of nodes.now.about pass.old.next_tree.items) 2 (view pass.new).known pass.new.next_tree.items) }
-    ensures put { IfOk result (λ done. Building nodes.now.about (slots_of nodes.now.about pass.old.next_tree.items) (slots - 2) (view pass.old) (view pass.new)) }
+    ensures vector { slots_of nodes.now.about pass.new.next_tree.items ≡ slots_of nodes.now.about
+        pass.old.next_tree.items }
+    ensures stands { IfOk result
+        (λ done. StandsFrom nodes.now.about (slots_of nodes.now.about pass.old.next_tree.items) 2
+        (view pass.new).known pass.new.next_tree.items) }
+    ensures put { IfOk result
+        (λ done. Building nodes.now.about (slots_of nodes.now.about pass.old.next_tree.items) (slots - 2)
+        (view pass.old) (view pass.new)) }
     ensures ticks { IfOk result (λ done. L.count steps.new ≡ raised (slots - 2) (L.count steps.old)) }
-    ensures full { OnErr result (Refused nodes.now.about (slots_of nodes.now.about pass.old.next_tree.items) (slots - 2) (view pass.old) (view pass.new)) }
+    ensures full { OnErr result
+        (Refused nodes.now.about (slots_of nodes.now.about pass.old.next_tree.items) (slots - 2)
+        (view pass.old) (view pass.new)) }
     ensures full_ticks { OnErr result (RaisedWithin (slots - 2) (L.count steps.old) (L.count steps.new)) }
 {
     for i in 2..slots {
@@ -103,16 +127,26 @@ fn put_or_keep<R: RootPart<W, F>, L: Ledger, const W: u32, const F: u32>(
     requires last { pass.old.has_last ≡ true }
     requires inner { (2 ≤ p) × (p < nodes.now.about.slots) }
     requires vector { IsVector nodes.now.about (slots_of nodes.now.about pass.old.next_tree.items) }
-    requires marks { MarksChanges nodes.now.about pass.old.marks.items pass.old.last_tree.items pass.old.next_tree.items }
-    requires stands { StandsFrom nodes.now.about (slots_of nodes.now.about pass.old.next_tree.items) (p + 1) (view pass.old).known pass.old.next_tree.items }
+    requires marks { MarksChanges nodes.now.about pass.old.marks.items pass.old.last_tree.items
+        pass.old.next_tree.items }
+    requires stands { StandsFrom nodes.now.about (slots_of nodes.now.about pass.old.next_tree.items) (p + 1)
+        (view pass.old).known pass.old.next_tree.items }
     ensures rest { AtRest R.part nodes.now pass.new }
     ensures keeps { KeepsLast pass.old pass.new }
-    ensures vector { slots_of nodes.now.about pass.new.next_tree.items ≡ slots_of nodes.now.about pass.old.next_tree.items }
+    ensures vector { slots_of nodes.now.about pass.new.next_tree.items ≡ slots_of nodes.now.about
+        pass.old.next_tree.items }
     ensures marks { pass.new.marks ≡ pass.old.marks }
-    ensures stands { IfOk result (λ done. StandsFrom nodes.now.about (slots_of nodes.now.about pass.old.next_tree.items) p (view pass.new).known pass.new.next_tree.items) }
-    ensures put { IfOk result (λ done. Building nodes.now.about (slots_of nodes.now.about pass.old.next_tree.items) (mark_at pass.old.marks.items p) (view pass.old) (view pass.new)) }
-    ensures ticks { IfOk result (λ done. L.count steps.new ≡ raised (mark_at pass.old.marks.items p) (L.count steps.old)) }
-    ensures full { OnErr result (IsBlockedInside nodes.now.about (view pass.new).known (slots_of nodes.now.about pass.old.next_tree.items)) }
+    ensures stands { IfOk result
+        (λ done. StandsFrom nodes.now.about (slots_of nodes.now.about pass.old.next_tree.items) p
+        (view pass.new).known pass.new.next_tree.items) }
+    ensures put { IfOk result
+        (λ done. Building nodes.now.about (slots_of nodes.now.about pass.old.next_tree.items)
+        (mark_at pass.old.marks.items p) (view pass.old) (view pass.new)) }
+    ensures ticks { IfOk result
+        (λ done. L.count steps.new ≡ raised (mark_at pass.old.marks.items p) (L.count steps.old)) }
+    ensures full { OnErr result
+        (IsBlockedInside nodes.now.about (view pass.new).known
+        (slots_of nodes.now.about pass.old.next_tree.items)) }
     ensures full_puts_none { OnErr result (Probed 1 (view pass.old) (view pass.new)) }
     ensures full_tick { OnErr result (L.count steps.new ≡ option_map counted (L.count steps.old)) }
     ensures full_marked { OnErr result (mark_at pass.old.marks.items p ≡ 1) }
@@ -124,7 +158,8 @@ fn put_or_keep<R: RootPart<W, F>, L: Ledger, const W: u32, const F: u32>(
     Ok(())
 }
 
-// Puts the inner nodes of the vector in the slots of the tree that is being put, at the marked positions; takes the others from the last tree.
+// Puts the inner nodes of the vector in the slots of the tree that is being put, at the marked positions;
+// takes the others from the last tree.
 pub(crate) fn put_marked<R: RootPart<W, F>, L: Ledger, const W: u32, const F: u32>(
     nodes: &Nodes<R, W, F>,
     pass: &mut Pass<R, W, F>,
@@ -134,17 +169,28 @@ pub(crate) fn put_marked<R: RootPart<W, F>, L: Ledger, const W: u32, const F: u3
     requires rest { AtRest R.part nodes.now pass.old }
     requires slots { slots ≡ nodes.now.about.slots }
     requires vector { IsVector nodes.now.about (slots_of nodes.now.about pass.old.next_tree.items) }
-    requires leaves { StandsFrom nodes.now.about (slots_of nodes.now.about pass.old.next_tree.items) slots (view pass.old).known pass.old.next_tree.items }
+    requires leaves { StandsFrom nodes.now.about (slots_of nodes.now.about pass.old.next_tree.items) slots
+        (view pass.old).known pass.old.next_tree.items }
     requires last { pass.old.has_last ≡ true }
-    requires marks { MarksChanges nodes.now.about pass.old.marks.items pass.old.last_tree.items pass.old.next_tree.items }
+    requires marks { MarksChanges nodes.now.about pass.old.marks.items pass.old.last_tree.items
+        pass.old.next_tree.items }
     ensures rest { AtRest R.part nodes.now pass.new }
     ensures keeps { KeepsLast pass.old pass.new }
-    ensures vector { slots_of nodes.now.about pass.new.next_tree.items ≡ slots_of nodes.now.about pass.old.next_tree.items }
-    ensures stands { IfOk result (λ done. StandsFrom nodes.now.about (slots_of nodes.now.about pass.old.next_tree.items) 2 (view pass.new).known pass.new.next_tree.items) }
-    ensures put { IfOk result (λ done. Building nodes.now.about (slots_of nodes.now.about pass.old.next_tree.items) (marks_from 2 pass.old.marks.items) (view pass.old) (view pass.new)) }
-    ensures ticks { IfOk result (λ done. L.count steps.new ≡ raised (marks_from 2 pass.old.marks.items) (L.count steps.old)) }
-    ensures full { OnErr result (Refused nodes.now.about (slots_of nodes.now.about pass.old.next_tree.items) (marks_from 2 pass.old.marks.items) (view pass.old) (view pass.new)) }
-    ensures full_ticks { OnErr result (RaisedWithin (marks_from 2 pass.old.marks.items) (L.count steps.old) (L.count steps.new)) }
+    ensures vector { slots_of nodes.now.about pass.new.next_tree.items ≡ slots_of nodes.now.about
+        pass.old.next_tree.items }
+    ensures stands { IfOk result
+        (λ done. StandsFrom nodes.now.about (slots_of nodes.now.about pass.old.next_tree.items) 2
+        (view pass.new).known pass.new.next_tree.items) }
+    ensures put { IfOk result
+        (λ done. Building nodes.now.about (slots_of nodes.now.about pass.old.next_tree.items)
+        (marks_from 2 pass.old.marks.items) (view pass.old) (view pass.new)) }
+    ensures ticks { IfOk result
+        (λ done. L.count steps.new ≡ raised (marks_from 2 pass.old.marks.items) (L.count steps.old)) }
+    ensures full { OnErr result
+        (Refused nodes.now.about (slots_of nodes.now.about pass.old.next_tree.items)
+        (marks_from 2 pass.old.marks.items) (view pass.old) (view pass.new)) }
+    ensures full_ticks { OnErr result
+        (RaisedWithin (marks_from 2 pass.old.marks.items) (L.count steps.old) (L.count steps.new)) }
 {
     for i in 2..slots {
         let Ok(()) = put_or_keep(nodes, pass, slots + 1 - i, steps) else {
@@ -154,21 +200,26 @@ pub(crate) fn put_marked<R: RootPart<W, F>, L: Ledger, const W: u32, const F: u3
     Ok(())
 }
 
-// Marks the inner positions above the slots in which the vector of the tree that is being put differs from that of the last tree.
+// Marks the inner positions above the slots in which the vector of the tree that is being put differs from
+// that of the last tree.
 fn mark_changes<T>(pass: &mut PassOf<T>, shape: &Shape) -> usize
     requires last { length pass.old.last_tree.items ≡ 2 * shape.now }
     requires next { length pass.old.next_tree.items ≡ 2 * shape.now }
     requires marks { length pass.old.marks.items ≡ shape.now }
     ensures rest { pass.new ≡ record pass.old { marks = pass.new.marks } }
     ensures marks { length pass.new.marks.items ≡ shape.now }
-    ensures marked { (p : ℕ) → IsMarked pass.new.marks.items p ↔ IsChanged shape.now (drop shape.now pass.old.last_tree.items) (drop shape.now pass.old.next_tree.items) p }
-    ensures count { marked_count pass.new.marks.items ≡ changed_count shape.now (drop shape.now pass.old.last_tree.items) (drop shape.now pass.old.next_tree.items) }
+    ensures marked { (p : ℕ)
+        → IsMarked pass.new.marks.items p ↔ IsChanged shape.now (drop shape.now pass.old.last_tree.items)
+        (drop shape.now pass.old.next_tree.items) p }
+    ensures count { marked_count pass.new.marks.items ≡ changed_count shape.now
+        (drop shape.now pass.old.last_tree.items) (drop shape.now pass.old.next_tree.items) }
 {
     let k = shape.slots();
     shape.changed(&pass.last_tree[k..], &pass.next_tree[k..], &mut pass.marks)
 }
 
-// Puts the inner nodes of the vector in the slots of the tree that is being put: all, or, if asked to, only those above slots in which the last tree has others.
+// Puts the inner nodes of the vector in the slots of the tree that is being put: all, or, if asked to, only
+// those above slots in which the last tree has others.
 pub(crate) fn put_nodes<R: RootPart<W, F>, L: Ledger, const W: u32, const F: u32>(
     nodes: &Nodes<R, W, F>,
     shape: &Shape,
@@ -179,15 +230,28 @@ pub(crate) fn put_nodes<R: RootPart<W, F>, L: Ledger, const W: u32, const F: u32
     requires rest { AtRest R.part nodes.now pass.old }
     requires shape { shape.now ≡ nodes.now.about.slots }
     requires vector { IsVector nodes.now.about (slots_of nodes.now.about pass.old.next_tree.items) }
-    requires leaves { StandsFrom nodes.now.about (slots_of nodes.now.about pass.old.next_tree.items) shape.now (view pass.old).known pass.old.next_tree.items }
+    requires leaves { StandsFrom nodes.now.about (slots_of nodes.now.about pass.old.next_tree.items) shape.now
+        (view pass.old).known pass.old.next_tree.items }
     ensures rest { AtRest R.part nodes.now pass.new }
     ensures keeps { KeepsLast pass.old pass.new }
-    ensures vector { slots_of nodes.now.about pass.new.next_tree.items ≡ slots_of nodes.now.about pass.old.next_tree.items }
-    ensures stands { IfOk result (λ done. StandsFrom nodes.now.about (slots_of nodes.now.about pass.old.next_tree.items) 2 (view pass.new).known pass.new.next_tree.items) }
-    ensures put { IfOk result (λ done. let v = slots_of nodes.now.about pass.old.next_tree.items in Building nodes.now.about v (puts_after nodes.now.about (compared from_last pass.old) v) (view pass.old) (view pass.new)) }
-    ensures ticks { IfOk result (λ done. L.count steps.new ≡ raised (puts_after nodes.now.about (compared from_last pass.old) (slots_of nodes.now.about pass.old.next_tree.items)) (L.count steps.old)) }
-    ensures full { OnErr result (let v = slots_of nodes.now.about pass.old.next_tree.items in Refused nodes.now.about v (puts_after nodes.now.about (compared from_last pass.old) v) (view pass.old) (view pass.new)) }
-    ensures full_ticks { OnErr result (RaisedWithin (puts_after nodes.now.about (compared from_last pass.old) (slots_of nodes.now.about pass.old.next_tree.items)) (L.count steps.old) (L.count steps.new)) }
+    ensures vector { slots_of nodes.now.about pass.new.next_tree.items ≡ slots_of nodes.now.about
+        pass.old.next_tree.items }
+    ensures stands { IfOk result
+        (λ done. StandsFrom nodes.now.about (slots_of nodes.now.about pass.old.next_tree.items) 2
+        (view pass.new).known pass.new.next_tree.items) }
+    ensures put { IfOk result
+        (λ done. let v = slots_of nodes.now.about pass.old.next_tree.items in Building nodes.now.about v
+        (puts_after nodes.now.about (compared from_last pass.old) v) (view pass.old) (view pass.new)) }
+    ensures ticks { IfOk result
+        (λ done. L.count steps.new ≡ raised
+        (puts_after nodes.now.about (compared from_last pass.old)
+        (slots_of nodes.now.about pass.old.next_tree.items)) (L.count steps.old)) }
+    ensures full { OnErr result
+        (let v = slots_of nodes.now.about pass.old.next_tree.items in Refused nodes.now.about v
+        (puts_after nodes.now.about (compared from_last pass.old) v) (view pass.old) (view pass.new)) }
+    ensures full_ticks { OnErr result
+        (RaisedWithin (puts_after nodes.now.about (compared from_last pass.old)
+        (slots_of nodes.now.about pass.old.next_tree.items)) (L.count steps.old) (L.count steps.new)) }
 {
     if from_last && pass.has_last {
         let _ = mark_changes(pass, shape);

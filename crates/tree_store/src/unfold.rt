@@ -17,7 +17,8 @@ fn note_parts<T>(pass: &mut PassOf<T>, p: usize, left: u64, right: u64)
     requires few { length pass.old.next_tree.items ≤ 2048 }
     requires parts { (left < 2 ^ 32) × (right < 2 ^ 32) }
     ensures rest { pass.new ≡ record pass.old { next_tree = pass.new.next_tree } }
-    ensures tree { pass.new.next_tree.items ≡ slice_set (slice_set pass.old.next_tree.items (2 * p) left) (2 * p + 1) right }
+    ensures tree { pass.new.next_tree.items ≡ slice_set (slice_set pass.old.next_tree.items (2 * p) left)
+        (2 * p + 1) right }
 {
     pass.next_tree[2 * p] = left as u32;
     pass.next_tree[2 * p + 1] = right as u32;
@@ -32,11 +33,14 @@ fn open_position<R: RootPart<W, F>, const W: u32, const F: u32>(
 )
     requires rest { AtRest R.part nodes.now pass.old }
     requires inner { (2 ≤ p) × (p < nodes.now.about.slots) }
-    requires stands { (v : Vector) × StandsTo nodes.now.about v (2 * p) (view pass.old).known pass.old.next_tree.items }
+    requires stands { (v : Vector)
+        × StandsTo nodes.now.about v (2 * p) (view pass.old).known pass.old.next_tree.items }
     ensures rest { AtRest R.part nodes.now pass.new }
     ensures keeps { KeepsLast pass.old pass.new }
     ensures puts_none { Probed 0 (view pass.old) (view pass.new) }
-    ensures stands { (v : Vector) → StandsTo nodes.now.about v (2 * p) (view pass.old).known pass.old.next_tree.items → StandsTo nodes.now.about v (2 * p + 2) (view pass.new).known pass.new.next_tree.items }
+    ensures stands { (v : Vector)
+        → StandsTo nodes.now.about v (2 * p) (view pass.old).known pass.old.next_tree.items
+        → StandsTo nodes.now.about v (2 * p + 2) (view pass.new).known pass.new.next_tree.items }
 {
     let index = pass.next_tree[p] as u64;
     let (left, right) = nodes.pair_at(pass, index);
@@ -51,11 +55,14 @@ fn open_all<R: RootPart<W, F>, const W: u32, const F: u32>(
 )
     requires rest { AtRest R.part nodes.now pass.old }
     requires slots { slots ≡ nodes.now.about.slots }
-    requires stands { (v : Vector) × StandsTo nodes.now.about v 4 (view pass.old).known pass.old.next_tree.items }
+    requires stands { (v : Vector)
+        × StandsTo nodes.now.about v 4 (view pass.old).known pass.old.next_tree.items }
     ensures rest { AtRest R.part nodes.now pass.new }
     ensures keeps { KeepsLast pass.old pass.new }
     ensures puts_none { Probed 0 (view pass.old) (view pass.new) }
-    ensures stands { (v : Vector) → StandsTo nodes.now.about v 4 (view pass.old).known pass.old.next_tree.items → StandsTo nodes.now.about v (2 * slots) (view pass.new).known pass.new.next_tree.items }
+    ensures stands { (v : Vector)
+        → StandsTo nodes.now.about v 4 (view pass.old).known pass.old.next_tree.items
+        → StandsTo nodes.now.about v (2 * slots) (view pass.new).known pass.new.next_tree.items }
 {
     for p in 2..slots {
         open_position(nodes, pass, p);
@@ -82,12 +89,15 @@ pub(crate) fn unfold<R: RootPart<W, F>, const W: u32, const F: u32>(
 )
     requires rest { AtRest R.part nodes.now pass.old }
     requires parts { (left < 2 ^ nodes.now.about.width) × (right < 2 ^ nodes.now.about.width) }
-    requires stands { IsSomeRoot nodes.now.about (view pass.old).known (pair_of nodes.now.about.width left right) }
+    requires stands { IsSomeRoot nodes.now.about (view pass.old).known
+        (pair_of nodes.now.about.width left right) }
     requires out { length out.old ≡ nodes.now.about.slots }
     ensures rest { AtRest R.part nodes.now pass.new }
     ensures keeps { KeepsLast pass.old pass.new }
     ensures puts_none { Probed 0 (view pass.old) (view pass.new) }
-    ensures vector { let about = nodes.now.about in (v : Vector) → RootStands about.width about.slots (view pass.old).known (pair_of nodes.now.about.width left right) v → length v ≡ about.slots → out.new ≡ v }
+    ensures vector { let about = nodes.now.about in (v : Vector)
+        → RootStands about.width about.slots (view pass.old).known
+        (pair_of nodes.now.about.width left right) v → length v ≡ about.slots → out.new ≡ v }
 {
     let slots = nodes.table().slots();
     note_parts(pass, 1, left, right);

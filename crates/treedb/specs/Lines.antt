@@ -1,5 +1,6 @@
 -- The lines that a run inserts.
-use Rattle.std.specs.Prelude.{◌≡◌, ◌==◌, ℕ, Bool, true, false, List, Option, Some, None, Result, Ok, Err, IfSome, length, if◌then◌else◌}
+use Rattle.std.specs.Prelude.{◌≡◌, ◌==◌, ℕ, Bool, true, false, List, Option, Some, None, Result, Ok, Err}
+use Rattle.std.specs.Prelude.{IfSome, length, if◌then◌else◌}
 use Rattle.std.specs.List.{list_all}
 use Rattle.tdb_base.specs.History.{Vector}
 use Rattle.trace_csv.specs.Trace.{Unsigned, trace_of}

@@ -33,10 +33,16 @@ no_memory = codes "treedb: no memory\n"
 
 -- why the bytes write no trace; want of memory is no such reason, and is never told here
 abbrev pub trace_text : TraceError → List ℕ
-trace_text (t.NotANumber row field) = codes "treedb: record " ++ decimal row ++ codes " field " ++ decimal field ++ codes " is not a number\n"
-trace_text (t.TooBig row field) = codes "treedb: record " ++ decimal row ++ codes " field " ++ decimal field ++ codes " is too big\n"
-trace_text (t.Ragged row fields first) = codes "treedb: record " ++ decimal row ++ codes " has " ++ decimal fields ++ codes " fields, the first has " ++ decimal first ++ codes "\n"
-trace_text (t.Length row fields) = codes "treedb: record " ++ decimal row ++ codes " has " ++ decimal fields ++ codes " fields, 2 to 1024 are allowed\n"
+trace_text (t.NotANumber row field) =
+    codes "treedb: record " ++ decimal row ++ codes " field " ++ decimal field ++ codes " is not a number\n"
+trace_text (t.TooBig row field) =
+    codes "treedb: record " ++ decimal row ++ codes " field " ++ decimal field ++ codes " is too big\n"
+trace_text (t.Ragged row fields first) =
+    codes "treedb: record " ++ decimal row ++ codes " has " ++ decimal fields ++ codes
+    " fields, the first has " ++ decimal first ++ codes "\n"
+trace_text (t.Length row fields) =
+    codes "treedb: record " ++ decimal row ++ codes " has " ++ decimal fields ++ codes
+    " fields, 2 to 1024 are allowed\n"
 trace_text t.NoRecords = codes "treedb: no records\n"
 trace_text t.NoMemory = no_memory
 

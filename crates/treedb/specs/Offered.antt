@@ -1,5 +1,6 @@
 -- Which of the choices that words can make the program offers.
-use Rattle.std.specs.Prelude.{◌==◌, ◌&&◌, ℕ, Bool, true, false, not, List, Option, Some, None, if◌then◌else◌, option_and_then}
+use Rattle.std.specs.Prelude.{◌==◌, ◌&&◌, ℕ, Bool, true, false, not, List, Option, Some, None, if◌then◌else◌}
+use Rattle.std.specs.Prelude.{option_and_then}
 use Rattle.clap.specs.Words.{Text}
 use Rattle.command_line.specs.Choose.{chosen}
 use Rattle.command_line.specs.Rules.{is_compact}
@@ -26,4 +27,5 @@ offered words = option_and_then (λ c. if is_offered c then Some c else None) (c
 
 -- and if it is one of plain mode
 abbrev pub offered_plain : List Text → Option Choice
-offered_plain words = option_and_then (λ c. if is_offered c && not (is_compact c.mode) then Some c else None) (chosen words)
+offered_plain words =
+    option_and_then (λ c. if is_offered c && not (is_compact c.mode) then Some c else None) (chosen words)

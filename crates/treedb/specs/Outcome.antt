@@ -10,14 +10,17 @@ use Rattle.treedb.specs.Lines.{is_reader}
 use Rattle.trace_csv.specs.Output.{TakesFront}
 use Rattle.treedb.specs.Note.{note_text, status_of}
 use Rattle.treedb.specs.Reading.{IsRefusedFor}
-use Rattle.treedb.specs.Run.{GivesWithin, Headline, OfPrinted, Prints, PrintsFront, is_printed, reads_to_end, valid_input}
+use Rattle.treedb.specs.Run.{GivesWithin, Headline, OfPrinted, Prints, PrintsFront, is_printed, reads_to_end}
+use Rattle.treedb.specs.Run.{valid_input}
 use Rattle.treedb.specs.declared.ended.Ended.{Ended}
 use Rattle.treedb.specs.declared.ended.Ended.TheVariants as e
 
 -- what is told beside the status: why the bytes are refused, and how many lines are full
 abbrev pub IsDetail : (offer : Option Choice) (told old new : Option (List ℕ)) → Ended → Type 0
-IsDetail offer told old new (e.BadTrace refusal) = IfSome told (λ bytes. (c : Choice) × (offer ≡ Some c) × IsRefusedFor c bytes refusal)
-IsDetail offer told old new (e.Full lines) = (printed : Prints offer told old new s.Full) × (count_by is_full printed.run.replies ≡ lines)
+IsDetail offer told old new (e.BadTrace refusal) =
+    IfSome told (λ bytes. (c : Choice) × (offer ≡ Some c) × IsRefusedFor c bytes refusal)
+IsDetail offer told old new (e.Full lines) = (printed : Prints offer told old new s.Full)
+    × (count_by is_full printed.run.replies ≡ lines)
 IsDetail offer told old new e.Done = Unit {0}
 IsDetail offer told old new e.Usage = Unit {0}
 IsDetail offer told old new e.TooMuch = Unit {0}
@@ -41,7 +44,8 @@ pub record SinkStep (K : Type 0) : Type 0 where
   pub new : K
 
 -- a run of what is offered ended with this status, and left its source and its sink so
-pub record Outcome {S K : Type 0} (offer : Option Choice) (source : SourceStep S) (sink : SinkStep K) (status : Status) : Type 0 where
+pub record Outcome {S K : Type 0} (offer : Option Choice) (source : SourceStep S) (sink : SinkStep K)
+    (status : Status) : Type 0 where
   -- with `Done` or `Full` the sink took all of the text: that of replies to the lines, which form one history
   pub replies_form_one_history : is_printed status ≡ true
       → Prints offer (source.left source.old) (sink.taken sink.old) (sink.taken sink.new) status
@@ -55,15 +59,18 @@ pub record Outcome {S K : Type 0} (offer : Option Choice) (source : SourceStep S
   pub usage : status ≡ s.Usage → offer ≡ None
   pub refused_words : offer ≡ None → (status ≡ s.Usage) ⊎ (status ≡ s.NoMemory)
   -- the input is read to its end before it is looked at
-  pub end : reads_to_end status ≡ true → IfSome offer (λ c. is_reader c.job ≡ true → IsAtEnd (source.left source.new))
+  pub end : reads_to_end status ≡ true
+      → IfSome offer (λ c. is_reader c.job ≡ true → IsAtEnd (source.left source.new))
   pub unread : status ≡ s.Usage → source.new ≡ source.old
   pub drawn : IfSome offer (λ c. is_reader c.job ≡ false → source.new ≡ source.old)
   pub read_fault : status ≡ s.ReadFault → Rose (source.faults source.old) (source.faults source.new)
   pub gave : GivesWithin (source.left source.old) (source.left source.new) status
-  pub bad_trace : status ≡ s.BadTrace → IfSome (source.left source.old) (λ bytes. valid_input offer bytes ≡ None)
+  pub bad_trace : status ≡ s.BadTrace
+      → IfSome (source.left source.old) (λ bytes. valid_input offer bytes ≡ None)
 
 -- the same, and what is told beside the status
-pub record EndsAs {S K : Type 0} (offer : Option Choice) (source : SourceStep S) (sink : SinkStep K) (ended : Ended) : Type 0 where
+pub record EndsAs {S K : Type 0} (offer : Option Choice) (source : SourceStep S) (sink : SinkStep K)
+    (ended : Ended) : Type 0 where
   pub outcome : Outcome offer source sink (status_of ended)
   pub detail : IsDetail offer (source.left source.old) (sink.taken sink.old) (sink.taken sink.new) ended
 
@@ -74,17 +81,20 @@ pub record IsNoted {N : Type 0} (notes : SinkStep N) (ended : Ended) : Type 0 wh
       → Appends (notes.taken notes.old) (notes.taken notes.new) (note_text ended)
 
 -- they took the note of some end with this status
-pub record IsNote {S K N : Type 0} (offer : Option Choice) (source : SourceStep S) (sink : SinkStep K) (notes : SinkStep N) (status : Status) : Type 0 where
+pub record IsNote {S K N : Type 0} (offer : Option Choice) (source : SourceStep S) (sink : SinkStep K)
+    (notes : SinkStep N) (status : Status) : Type 0 where
   pub ended : Ended
   pub status_is : status ≡ status_of ended
   pub detail : IsDetail offer (source.left source.old) (sink.taken sink.old) (sink.taken sink.new) ended
   pub noted : IsNoted notes ended
 
 -- all that a run of what is offered leaves
-pub record RunEnds {S K N : Type 0} (offer : Option Choice) (source : SourceStep S) (sink : SinkStep K) (notes : SinkStep N) (status : Status) : Type 0 where
+pub record RunEnds {S K N : Type 0} (offer : Option Choice) (source : SourceStep S) (sink : SinkStep K)
+    (notes : SinkStep N) (status : Status) : Type 0 where
   -- with `Done` or `Full`, of each run whose text the sink took
   pub headline : is_printed status ≡ true
-      → OfPrinted offer (source.left source.old) (sink.taken sink.old) (sink.taken sink.new) (λ run text. Headline run text)
+      → OfPrinted offer (source.left source.old) (sink.taken sink.old) (sink.taken sink.new)
+      (λ run text. Headline run text)
   -- and that there is such a run, and what else became of source and sink
   pub outcome : Outcome offer source sink status
   -- the note of the end, which is handed on whole, but none for `Done`

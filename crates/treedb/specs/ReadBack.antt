@@ -1,5 +1,6 @@
 -- What was read back from a store: vectors that stand one after the other, and their numbers.
-use Rattle.std.specs.Prelude.{◌≡◌, ◌≢◌, ◌+◌, ◌*◌, ◌^◌, ◌≤◌, ℕ, List, [], ◌∷◌, ◌++◌, All, Option, Some, None, length, map, vec_capacity, ⊤}
+use Rattle.std.specs.Prelude.{◌≡◌, ◌≢◌, ◌+◌, ◌*◌, ◌^◌, ◌≤◌, ℕ, List, [], ◌∷◌, ◌++◌, All, Option, Some, None}
+use Rattle.std.specs.Prelude.{length, map, vec_capacity, ⊤}
 use Rattle.std.specs.List.{AllPairs, filter_map, range_with_len}
 use Rattle.tdb_base.specs.History.{Vector, History, name_of}
 use Rattle.tdb_base.specs.Lines.{named}
@@ -59,7 +60,8 @@ pub record AreThere (back : ReadBack) : Type 0 where
   pub least : 2 ≤ back.slots
   pub there : All (λ number. (number + 1) * back.slots ≤ length back.flat.items) back.order.items
 
--- what was read back by these identifiers: vectors that have them as names, in rising order where they are different
+-- what was read back by these identifiers: vectors that have them as names, in rising order where they are
+-- different
 pub record IsReadBy (h : History) (ids : List ℕ) (back : ReadBack) : Type 0 where
   pub are_there : AreThere back
   pub read : List Vector

@@ -1,5 +1,6 @@
 -- What reading a trace leaves of its source, and why some bytes are no trace.
-use Rattle.std.specs.Prelude.{◌≡◌, ◌≢◌, ◌<◌, ◌↔◌, ℕ, true, false, List, Option, Result, Ok, Err, IfSome, length}
+use Rattle.std.specs.Prelude.{◌≡◌, ◌≢◌, ◌<◌, ◌↔◌, ℕ, true, false, List, Option, Result, Ok, Err, IfSome}
+use Rattle.std.specs.Prelude.{length}
 use Rattle.std.specs.Io.KnownBytes.{Consumes}
 use Rattle.tdb_base.specs.History.{Vector}
 use Rattle.trace_csv.specs.Input.{limit}
@@ -14,8 +15,10 @@ use Rattle.treedb.specs.declared.ended.Refusal.TheVariants as r
 
 -- the bytes are refused for this: the first fault of their trace, or lines that the mode doesn't take
 abbrev pub IsRefusedFor : Choice → List ℕ → Refusal → Type 0
-IsRefusedFor c bytes (r.Trace error) = (trace_of (Unsigned c.profile) bytes ≡ Err error) × (error ≢ t.NoMemory)
-IsRefusedFor c bytes r.NotPairs = (lines : List Vector) × (trace_of (Unsigned c.profile) bytes ≡ Ok lines) × (takes_lines c.mode lines ≡ false)
+IsRefusedFor c bytes (r.Trace error) = (trace_of (Unsigned c.profile) bytes ≡ Err error)
+    × (error ≢ t.NoMemory)
+IsRefusedFor c bytes r.NotPairs = (lines : List Vector) × (trace_of (Unsigned c.profile) bytes ≡ Ok lines)
+    × (takes_lines c.mode lines ≡ false)
 
 -- a run that reads no lines ends with a refusal of the bytes, or for want of memory
 abbrev pub Refuses : Choice → List ℕ → Ended → Type 0
@@ -30,7 +33,8 @@ Refuses c bytes e.WriteFault = ⊥
 
 -- how a run ends that reads no lines from its source
 abbrev pub EndsReading : Choice → Option (List ℕ) → Ended → Type 0
-EndsReading c told (e.BadTrace refusal) = IfSome told (λ bytes. IsRefusedFor c bytes refusal) × (is_reader c.job ≡ true)
+EndsReading c told (e.BadTrace refusal) = IfSome told (λ bytes. IsRefusedFor c bytes refusal)
+    × (is_reader c.job ≡ true)
 EndsReading c told e.NoMemory = Unit {0}
 EndsReading c told e.TooMuch = Unit {0}
 EndsReading c told e.ReadFault = Unit {0}

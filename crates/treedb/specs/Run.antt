@@ -1,9 +1,11 @@
 -- What a run of the program leaves behind.
-use Rattle.std.specs.Prelude.{◌≡◌, ◌<◌, ◌↔◌, ℕ, Bool, true, false, List, [], Option, Some, None, length, option_and_then}
+use Rattle.std.specs.Prelude.{◌≡◌, ◌<◌, ◌↔◌, ℕ, Bool, true, false, List, [], Option, Some, None, length}
+use Rattle.std.specs.Prelude.{option_and_then}
 use Rattle.std.specs.Io.KnownBytes.{Consumes, Appends}
 use Rattle.std.specs.List.{list_any, range_with_len}
 use Rattle.tdb_base.specs.Agrees.{Agrees}
-use Rattle.tdb_base.specs.Headline.{CountsDistinct, CountsNames, DifferentLinesDifferentIds, EachNewOnce, EqualLinesEqualIds}
+use Rattle.tdb_base.specs.Headline.{CountsDistinct, CountsNames, DifferentLinesDifferentIds, EachNewOnce}
+use Rattle.tdb_base.specs.Headline.{EqualLinesEqualIds}
 use Rattle.tdb_base.specs.History.{Vector, History}
 use Rattle.tdb_base.specs.Legal.{KeepsNames}
 use Rattle.tdb_base.specs.Lines.{named}
@@ -59,7 +61,8 @@ abbrev pub IsOfMode : Mode → Choice → List Vector → List Reply → History
 IsOfMode Plain c trace replies h stats = InStore c trace replies h stats
 IsOfMode Compact c trace replies h stats = IsOfPairs c.profile replies h × (stats ≡ None)
 
--- a run of a choice over the input that a source tells: its lines, a reply for each, and the one history that the replies form
+-- a run of a choice over the input that a source tells: its lines, a reply for each, and the one history that
+-- the replies form
 pub record Run (offer : Option Choice) (told : Option (List ℕ)) : Type 0 where
   pub choice : Choice
   pub trace : List Vector
@@ -69,7 +72,8 @@ pub record Run (offer : Option Choice) (told : Option (List ℕ)) : Type 0 where
   pub chose : offer ≡ Some choice
   pub some : 0 < choice.workers
   pub read : IsTraceFor choice told choice.job trace
-  pub agrees : Agrees (flag_count choice.profile) trace replies choice.workers choice.block [] history (range_with_len 0 choice.workers)
+  pub agrees : Agrees (flag_count choice.profile) trace replies choice.workers choice.block [] history
+      (range_with_len 0 choice.workers)
   pub of_mode : IsOfMode choice.mode choice trace replies history stats
 
 -- the text that a job writes: the report, the summary alone, or the vectors that have names in rising order
@@ -82,11 +86,14 @@ abbrev pub IsTextOf : {offer : Option Choice} {told : Option (List ℕ)} → Run
 IsTextOf run text = IsText run.choice.job run.replies run.history run.stats text
 
 -- where the job prints vectors and no line is full, they are those of the lines
-abbrev pub PrintsTheLines : {offer : Option Choice} {told : Option (List ℕ)} → Run offer told → List ℕ → Type 0
-PrintsTheLines run text = run.choice.job ≡ Distinct → list_any is_full run.replies ≡ false → IsSortedText run.trace text
+abbrev pub PrintsTheLines : {offer : Option Choice} {told : Option (List ℕ)} → Run offer told → List ℕ
+    → Type 0
+PrintsTheLines run text = run.choice.job ≡ Distinct → list_any is_full run.replies ≡ false
+    → IsSortedText run.trace text
 
 -- what holds of a run and its text
-pub record Headline {offer : Option Choice} {told : Option (List ℕ)} (run : Run offer told) (text : List ℕ) : Type 0 where
+pub record Headline {offer : Option Choice} {told : Option (List ℕ)} (run : Run offer told)
+    (text : List ℕ) : Type 0 where
   pub equal_lines_have_equal_identifiers : EqualLinesEqualIds run.trace run.replies
   pub different_lines_have_different_identifiers : DifferentLinesDifferentIds run.trace run.replies
   pub printed_count_is_the_number_of_names : CountsNames run.replies run.history
@@ -104,8 +111,10 @@ pub record Prints (offer : Option Choice) (told old new : Option (List ℕ)) (st
   pub full : (status ≡ s.Full) ↔ (list_any is_full run.replies ≡ true)
 
 -- this holds of every run whose text is what the sink took
-abbrev pub OfPrinted : (offer : Option Choice) (told old new : Option (List ℕ)) → (Run offer told → List ℕ → Type 0) → Type 0
-OfPrinted offer told old new P = (run : Run offer told) (text : List ℕ) → IsTextOf run text → Appends old new text → P run text
+abbrev pub OfPrinted : (offer : Option Choice) (told old new : Option (List ℕ))
+    → (Run offer told → List ℕ → Type 0) → Type 0
+OfPrinted offer told old new P = (run : Run offer told) (text : List ℕ) → IsTextOf run text
+    → Appends old new text → P run text
 
 -- the sink took a front of the text of a run
 pub record PrintsFront (offer : Option Choice) (told old new : Option (List ℕ)) : Type 0 where

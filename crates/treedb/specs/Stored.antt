@@ -1,5 +1,6 @@
 -- What stands in a plain store at the end of a run.
-use Rattle.std.specs.Prelude.{◌≡◌, ◌+◌, ◌*◌, ◌-◌, ◌≤◌, ◌↔◌, ℕ, Bool, true, false, List, Option, Some, None, All, length, slice_get, count_by, ⊤}
+use Rattle.std.specs.Prelude.{◌≡◌, ◌+◌, ◌*◌, ◌-◌, ◌≤◌, ◌↔◌, ℕ, Bool, true, false, List, Option, Some, None}
+use Rattle.std.specs.Prelude.{All, length, slice_get, count_by, ⊤}
 use Rattle.std.specs.List.{list_any}
 use Rattle.tree_shape.specs.Tree.{Has}
 use Rattle.tdb_base.specs.History.{Vector, History, name_of}
@@ -18,7 +19,8 @@ use Rattle.command_line.specs.declared.outcome.Choice.{Choice}
 use Rattle.command_line.specs.declared.table.TableSizes.{TableSizes}
 use Rattle.treedb.specs.Offered.{flag_count}
 
--- what the tables of a choice are about, for these lines: the profile, the lines' slots, and the sizes that the words give or the least that suffice
+-- what the tables of a choice are about, for these lines: the profile, the lines' slots, and the sizes that
+-- the words give or the least that suffice
 pub record IsAboutChoice (c : Choice) (trace : List Vector) (about : About) : Type 0 where
   pub is_about : IsAbout plain.sized plain.count about
   pub width : about.width ≡ c.profile
@@ -31,8 +33,10 @@ pub record IsAboutChoice (c : Choice) (trace : List Vector) (about : About) : Ty
   pub region : about.sizes.region ≡ sizes.region
   pub probe : about.sizes.probe ≡ sizes.probe
 
--- the counts of a store with these nodes: the nodes' indexes, each once, and the bytes of nodes and names and of the named vectors
-pub record Counts (about : About) (lines : ℕ) (nodes : List (ℕ × ℕ)) (replies : List Reply) (stats : Stats) : Type 0 where
+-- the counts of a store with these nodes: the nodes' indexes, each once, and the bytes of nodes and names and
+-- of the named vectors
+pub record Counts (about : About) (lines : ℕ) (nodes : List (ℕ × ℕ)) (replies : List Reply)
+    (stats : Stats) : Type 0 where
   pub indexes : List ℕ
   pub once : NoRepeats indexes
   pub all : (index : ℕ) → Has index indexes ↔ ((pair : ℕ) × Has (index, pair) nodes)
@@ -50,16 +54,20 @@ AreTold false None Are = ⊤
 
 -- each node is in the tree of a named vector
 abbrev pub NodesAreNamed : About → List (ℕ × ℕ) → History → Type 0
-NodesAreNamed about nodes h = (index pair : ℕ) → Has (index, pair) nodes → (v : Vector) × (id : ℕ) × (name_of h v ≡ Some id) × IsInTree about nodes v index
+NodesAreNamed about nodes h = (index pair : ℕ) → Has (index, pair) nodes
+    → (v : Vector) × (id : ℕ) × (name_of h v ≡ Some id) × IsInTree about nodes v index
 
--- the store at the end of a run: its nodes and roots house the history, its nodes come of the lines, and a line is full only where a pair of its tree has no place
-pub record InStore (c : Choice) (trace : List Vector) (replies : List Reply) (h : History) (stats : Option Stats) : Type 0 where
+-- the store at the end of a run: its nodes and roots house the history, its nodes come of the lines, and a
+-- line is full only where a pair of its tree has no place
+pub record InStore (c : Choice) (trace : List Vector) (replies : List Reply) (h : History)
+    (stats : Option Stats) : Type 0 where
   pub about : About
   pub nodes : List (ℕ × ℕ)
   pub roots : List (ℕ × ℕ)
   pub about_is : IsAboutChoice c trace about
   pub housed : Housed about (plain.house about) nodes roots h
   pub filled : AreOfVectors about nodes trace
-  pub barred : (i : ℕ) (v : Vector) (reply : Reply) → slice_get trace i ≡ Some v → slice_get replies i ≡ Some reply → Barred plain about nodes roots v reply
+  pub barred : (i : ℕ) (v : Vector) (reply : Reply) → slice_get trace i ≡ Some v
+      → slice_get replies i ≡ Some reply → Barred plain about nodes roots v reply
   pub named : list_any is_full replies ≡ false → NodesAreNamed about nodes h
   pub counts : AreTold c.stats stats (Counts about (length trace) nodes replies)

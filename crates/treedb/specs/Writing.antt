@@ -25,10 +25,13 @@ text_of Insert replies stats = report replies (summary_of replies stats)
 text_of Distinct replies stats = []
 text_of Bench replies stats = summary_text (summary_of replies stats)
 
--- the sink took a text, and the run ends as the replies are full or not; or it failed after a front of the text
+-- the sink took a text, and the run ends as the replies are full or not; or it failed after a front of the
+-- text
 abbrev pub WritesText : List ℕ → List Reply → (old new : Option (List ℕ)) → Ended → Type 0
-WritesText text replies old new ended = (Appends old new text × (ended ≡ ended_with replies)) ⊎ (TakesFront old new text × (ended ≡ e.WriteFault))
+WritesText text replies old new ended =
+    (Appends old new text × (ended ≡ ended_with replies)) ⊎ (TakesFront old new text × (ended ≡ e.WriteFault))
 
--- the sink took the text of the replies, and the run ends as they are full or not; or it failed after a front of the text
+-- the sink took the text of the replies, and the run ends as they are full or not; or it failed after a front
+-- of the text
 abbrev pub WritesAnswers : Job → List Reply → Option Stats → (old new : Option (List ℕ)) → Ended → Type 0
 WritesAnswers job replies stats old new ended = WritesText (text_of job replies stats) replies old new ended

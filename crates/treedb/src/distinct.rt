@@ -1,5 +1,7 @@
-//! The vectors that lines were answered new, read back from the store by their identifiers, in rising list order.
-ghost use Rattle.std.specs.Prelude.{◌≡◌, ◌+◌, ◌*◌, ◌++◌, ◌∷◌, ◌≤◌, ◌<◌, ◌^◌, [], ℕ, All, IfOk, IfSome, List, Some, IsPermutation, drop, length, map, slice_get, take, vec_capacity};
+//! The vectors that lines were answered new, read back from the store by their identifiers, in rising list
+//! order.
+ghost use Rattle.std.specs.Prelude.{◌≡◌, ◌+◌, ◌*◌, ◌++◌, ◌∷◌, ◌≤◌, ◌<◌, ◌^◌, [], ℕ, All, IfOk, IfSome, List};
+ghost use Rattle.std.specs.Prelude.{Some, IsPermutation, drop, length, map, slice_get, take, vec_capacity};
 ghost use Rattle.std.specs.List.Sorted.{IsSortedByKey};
 ghost use Rattle.tdb_base.specs.History.{name_of};
 ghost use Rattle.tdb_base.specs.Legal.{Extends};
@@ -7,7 +9,8 @@ ghost use Rattle.pair_rule.specs.Rest.{AtRest, view};
 ghost use Rattle.root_plain.specs.Plain.{plain};
 ghost use Rattle.trace_csv.specs.Sorted.{list_order};
 ghost use Rattle.trace_csv.specs.Vectors.{vector_at as vector_of_number};
-ghost use Rattle.treedb.specs.ReadBack.{Adds, AwaitsLines, HasRoom, IfPrinted, IsCounted, IsReadBy, KeepsRoom, ReadsInto, new_id, new_ids, vectors};
+ghost use Rattle.treedb.specs.ReadBack.{Adds, AwaitsLines, HasRoom, IfPrinted, IsCounted, IsReadBy};
+ghost use Rattle.treedb.specs.ReadBack.{KeepsRoom, ReadsInto, new_id, new_ids, vectors};
 ghost use Rattle.tree_store.specs.Store.{Advanced};
 
 use command_line::Job;
@@ -15,7 +18,8 @@ use std::alloc::Global;
 use tdb_base::{NoMemory, Reply};
 use tree_store::{PlainPass, PlainStore};
 
-/// Vectors of so many slots that stand one after the other, and their numbers in the order in which they are written.
+/// Vectors of so many slots that stand one after the other, and their numbers in the order in which they are
+/// written.
 #[derive(Drop)]
 pub struct ReadBack {
     pub slots: usize,
@@ -52,7 +56,9 @@ fn read_at<const W: u32, const F: u32>(
     requires there { at + slots ≤ length flat.old }
     ensures rest { AtRest plain store.now pass.new }
     ensures no_call { Advanced plain [] (view pass.old) (view pass.new) }
-    ensures written { (vector : List ℕ) × (length vector ≡ slots) × (name_of (view pass.old).seen vector ≡ Some id) × (flat.new ≡ take at flat.old ++ (vector ++ drop (at + slots) flat.old)) }
+    ensures written { (vector : List ℕ) × (length vector ≡ slots)
+        × (name_of (view pass.old).seen vector ≡ Some id)
+        × (flat.new ≡ take at flat.old ++ (vector ++ drop (at + slots) flat.old)) }
 {
     let (_, rest) = flat.split_at_mut(at);
     let (out, _) = rest.split_at_mut(slots);
@@ -90,7 +96,8 @@ impl ReadBack {
         ensures room { KeepsRoom self.old self.new }
         ensures counted { IsCounted self.new }
         ensures one_more { length self.new.order.items ≡ length self.old.order.items + 1 }
-        ensures vector { (vector : List ℕ) × (name_of (view pass.old).seen vector ≡ Some id) × (vectors self.new ≡ vectors self.old ++ vector ∷ []) }
+        ensures vector { (vector : List ℕ) × (name_of (view pass.old).seen vector ≡ Some id)
+            × (vectors self.new ≡ vectors self.old ++ vector ∷ []) }
     {
         let number = self.order.len();
         let at = number * self.slots;
@@ -108,7 +115,8 @@ impl ReadBack {
         reply: Reply,
     )
         requires rest { AtRest plain store.now pass.old }
-        requires named { IfSome (new_id reply) (λ id. (vector : List ℕ) × (name_of (view pass.old).seen vector ≡ Some id)) }
+        requires named { IfSome (new_id reply)
+            (λ id. (vector : List ℕ) × (name_of (view pass.old).seen vector ≡ Some id)) }
         requires slots { self.old.slots ≡ store.now.about.slots }
         requires room { HasRoom 1 self.old }
         requires counted { IsCounted self.old }
@@ -133,14 +141,17 @@ impl ReadBack {
         replies: &[Reply],
     )
         requires rest { AtRest plain store.now pass.old }
-        requires named { All (λ reply. IfSome (new_id reply) (λ id. (vector : List ℕ) × (name_of (view pass.old).seen vector ≡ Some id))) replies.now }
+        requires named { All
+            (λ reply. IfSome (new_id reply)
+            (λ id. (vector : List ℕ) × (name_of (view pass.old).seen vector ≡ Some id))) replies.now }
         requires slots { self.old.slots ≡ store.now.about.slots }
         requires room { HasRoom (length replies.now) self.old }
         requires empty { self.old.order.items ≡ [] }
         ensures slots { self.new.slots ≡ self.old.slots }
         ensures room { HasRoom 0 self.new }
         ensures counted { IsCounted self.new }
-        ensures names { map (name_of (view pass.old).seen) (vectors self.new) ≡ map Some (new_ids replies.now) }
+        ensures names { map (name_of (view pass.old).seen) (vectors self.new) ≡ map Some
+            (new_ids replies.now) }
     {
         for reply in replies {
             self.add_new(store, pass, *reply);
@@ -153,7 +164,8 @@ impl ReadBack {
         ensures slots { self.new.slots ≡ self.old.slots }
         ensures flat { self.new.flat ≡ self.old.flat }
         ensures permutation { IsPermutation self.old.order.items self.new.order.items }
-        ensures sorted { IsSortedByKey (vector_of_number self.old.slots self.old.flat.items) list_order self.new.order.items }
+        ensures sorted { IsSortedByKey
+            (vector_of_number self.old.slots self.old.flat.items) list_order self.new.order.items }
     {
         let slots = self.slots;
         let flat = self.flat.as_slice();
@@ -171,7 +183,9 @@ impl ReadBack {
         replies: &[Reply],
     ) -> ReadBack
         requires rest { AtRest plain store.now pass.old }
-        requires named { All (λ reply. IfSome (new_id reply) (λ id. (vector : List ℕ) × (name_of (view pass.old).seen vector ≡ Some id))) replies.now }
+        requires named { All
+            (λ reply. IfSome (new_id reply)
+            (λ id. (vector : List ℕ) × (name_of (view pass.old).seen vector ≡ Some id))) replies.now }
         requires room { AwaitsLines store.now.about.slots (length replies.now) self }
         ensures { IsReadBy (view pass.old).seen (new_ids replies.now) result }
     {
@@ -198,7 +212,8 @@ pub fn take_room(
     }
 }
 
-/// Reads back the vectors of the replies that are new by their identifiers, in rising list order, where there is room for them.
+/// Reads back the vectors of the replies that are new by their identifiers, in rising list order, where there
+/// is room for them.
 ///
 /// It takes no memory, so it always succeeds.
 pub fn read_back<const W: u32, const F: u32>(
@@ -208,7 +223,9 @@ pub fn read_back<const W: u32, const F: u32>(
     room: Option<ReadBack>,
 ) -> Option<ReadBack>
     requires rest { AtRest plain store.now pass.old }
-    requires named { All (λ reply. IfSome (new_id reply) (λ id. (vector : List ℕ) × (name_of (view pass.old).seen vector ≡ Some id))) replies.now }
+    requires named { All
+        (λ reply. IfSome (new_id reply)
+        (λ id. (vector : List ℕ) × (name_of (view pass.old).seen vector ≡ Some id))) replies.now }
     requires room { IfSome room (AwaitsLines store.now.about.slots (length replies.now)) }
     ensures { ReadsInto (view pass.old).seen (new_ids replies.now) room result }
 {

@@ -1,5 +1,6 @@
 //! The lines that a run inserts: read from the source, or drawn.
-ghost use Rattle.std.specs.Prelude.{◌≡◌, ◌≤◌, ◌<◌, ◌^◌, ◌⊎◌, true, false, All, IfOk, IfErr, IfSome, OnOk, Ok, Err, length, vec_len};
+ghost use Rattle.std.specs.Prelude.{◌≡◌, ◌≤◌, ◌<◌, ◌^◌, ◌⊎◌, true, false, All, IfOk, IfErr, IfSome, OnOk, Ok};
+ghost use Rattle.std.specs.Prelude.{Err, length, vec_len};
 ghost use Rattle.std.specs.Io.KnownBytes.{IsAtEnd};
 ghost use Rattle.tdb_base.specs.Causes.{Rose};
 ghost use Rattle.trace_csv.specs.Input.{limit};
@@ -52,7 +53,8 @@ fn bytes_of<S: Source>(alloc: Global, source: &mut S) -> Result<Vec<u8>, Ended>
     ensures end { OnOk result (IsAtEnd (S.left source.new)) }
     ensures gave { GaveWithin (S.left source.old) (S.left source.new) result }
     ensures fault { result ≡ Err Ended.ReadFault → Rose (S.faults source.old) (S.faults source.new) }
-    ensures answer { IfErr result (λ ended. (ended ≡ Ended.ReadFault) ⊎ ((ended ≡ Ended.TooMuch) ⊎ (ended ≡ Ended.NoMemory))) }
+    ensures answer { IfErr result
+        (λ ended. (ended ≡ Ended.ReadFault) ⊎ ((ended ≡ Ended.TooMuch) ⊎ (ended ≡ Ended.NoMemory))) }
 {
     match read_all(alloc, source) {
         Ok(bytes) => Ok(bytes),
@@ -85,13 +87,15 @@ fn drawn(alloc: Global, choice: &Choice) -> Result<Trace, Ended>
 
 /// The lines that the choice reads from the source, or draws, or how the run ends where there are none.
 ///
-/// For `insert` and `distinct` the source is read to its end first: `ReadFault` comes only where its count of faults rose, `TooMuch` for more than
-/// 67,108,864 bytes, `BadTrace` for bytes that write no trace, or in compact mode none of two slots. `bench` reads nothing. `NoMemory` may come anywhere.
+/// For `insert` and `distinct` the source is read to its end first: `ReadFault` comes only where its count of
+/// faults rose, `TooMuch` for more than 67,108,864 bytes, `BadTrace` for bytes that write no trace, or in
+/// compact mode none of two slots. `bench` reads nothing. `NoMemory` may come anywhere.
 pub fn take_trace<S: Source>(alloc: Global, choice: &Choice, source: &mut S) -> Result<Trace, Ended>
     requires { IsValid choice.now }
     ensures trace { IfOk result (IsTraceFor choice.now (S.left source.old) choice.now.job) }
     ensures few { IfOk result (λ trace. length trace ≤ 2 ^ 32) }
-    ensures taken { IfOk result (λ trace. is_reader choice.now.job ≡ true → takes_lines choice.now.mode trace ≡ true) }
+    ensures taken { IfOk result
+        (λ trace. is_reader choice.now.job ≡ true → takes_lines choice.now.mode trace ≡ true) }
     ensures below { IfOk result (λ trace. All (λ line. All (λ n. n < 2 ^ choice.now.profile) line) trace) }
     ensures gave { GaveWithin (S.left source.old) (S.left source.new) result }
     ensures fault { result ≡ Err Ended.ReadFault → Rose (S.faults source.old) (S.faults source.new) }

@@ -1,4 +1,5 @@
-//! The program over a store of state vectors: it reads a trace from standard input and writes a report to standard output.
+//! The program over a store of state vectors: it reads a trace from standard input and writes a report to
+//! standard output.
 #![tactic(auto)]
 
 mod distinct;

@@ -19,8 +19,10 @@ use trace_csv::{TraceError, write_text};
 pub fn write_note<N: Sink>(ended: &Ended, notes: &mut N)
     ensures done { ended.now ≡ Ended.Done → notes.new ≡ notes.old }
     ensures front { TakesFront (N.taken notes.old) (N.taken notes.new) (note.note_text ended.now) }
-    ensures exact { (Rose (N.faults notes.old) (N.faults notes.new) → ⊥) → Appends (N.taken notes.old) (N.taken notes.new) (note.note_text ended.now) }
-    ensures settled { ended.now ≢ Ended.Done → (Rose (N.faults notes.old) (N.faults notes.new) → ⊥) → N.settled notes.new ≡ true }
+    ensures exact { (Rose (N.faults notes.old) (N.faults notes.new) → ⊥)
+        → Appends (N.taken notes.old) (N.taken notes.new) (note.note_text ended.now) }
+    ensures settled { ended.now ≢ Ended.Done → (Rose (N.faults notes.old) (N.faults notes.new) → ⊥)
+        → N.settled notes.new ≡ true }
     ensures later { N.faults notes.old ≤ N.faults notes.new }
 {
     match ended {
@@ -38,7 +40,8 @@ pub fn write_note<N: Sink>(ended: &Ended, notes: &mut N)
 // Writes a note, as far as the notes take it.
 fn put_note<N: Sink>(text: &[u8], notes: &mut N)
     ensures front { TakesFront (N.taken notes.old) (N.taken notes.new) text.now }
-    ensures exact { (Rose (N.faults notes.old) (N.faults notes.new) → ⊥) → Appends (N.taken notes.old) (N.taken notes.new) text.now }
+    ensures exact { (Rose (N.faults notes.old) (N.faults notes.new) → ⊥)
+        → Appends (N.taken notes.old) (N.taken notes.new) text.now }
     ensures settled { (Rose (N.faults notes.old) (N.faults notes.new) → ⊥) → N.settled notes.new ≡ true }
     ensures later { N.faults notes.old ≤ N.faults notes.new }
 {
@@ -78,7 +81,8 @@ fn trace_text(error: TraceError) -> NoteText
 // A fault of a field.
 fn field_text(row: u64, field: u64, fault: &[u8]) -> NoteText
     requires { length fault.now ≤ 40 }
-    ensures { result ≡ codes "treedb: record " ++ decimal row ++ codes " field " ++ decimal field ++ fault.now }
+    ensures { result ≡
+        codes "treedb: record " ++ decimal row ++ codes " field " ++ decimal field ++ fault.now }
 {
     let mut text = NoteText::of(b"treedb: record ");
     text.add_number(row);
@@ -91,7 +95,8 @@ fn field_text(row: u64, field: u64, fault: &[u8]) -> NoteText
 // The count of a record's fields, and what is wrong with it.
 fn count_text(row: u64, fields: u64, fault: &[u8]) -> NoteText
     requires { length fault.now ≤ 40 }
-    ensures text { result ≡ codes "treedb: record " ++ decimal row ++ codes " has " ++ decimal fields ++ fault.now }
+    ensures text { result ≡ codes "treedb: record " ++ decimal row ++ codes " has " ++ decimal fields ++
+        fault.now }
     ensures short { length result ≤ 100 }
 {
     let mut text = NoteText::of(b"treedb: record ");

@@ -34,7 +34,8 @@ fn ended(replies: &[Reply]) -> Ended
     Ended::Done
 }
 
-/// Writes the text of a job whose lines were answered so: the report of all replies, or the summary alone. The sink is finished then.
+/// Writes the text of a job whose lines were answered so: the report of all replies, or the summary alone.
+/// The sink is finished then.
 ///
 /// `WriteFault` comes only where the sink's count of faults rose, and leaves a front of the text.
 pub fn write_answers<K: Sink>(
@@ -64,7 +65,8 @@ pub fn write_answers<K: Sink>(
 /// `WriteFault` comes only where the sink's count of faults rose, and leaves a front of the text.
 pub fn write_distinct<K: Sink>(read: &ReadBack, replies: &[Reply], sink: &mut K) -> Ended
     requires { AreThere read.now }
-    ensures written { WritesText (vectors_text (vectors read.now)) replies.now (K.taken sink.old) (K.taken sink.new) result }
+    ensures written { WritesText (vectors_text (vectors read.now)) replies.now (K.taken sink.old)
+        (K.taken sink.new) result }
     ensures settled { result ≢ Ended.WriteFault → K.settled sink.new ≡ true }
     ensures fault { result ≡ Ended.WriteFault → Rose (K.faults sink.old) (K.faults sink.new) }
 {

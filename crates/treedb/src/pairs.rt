@@ -28,8 +28,9 @@ fn reply_of(fresh: bool, id: u64) -> Reply
     }
 }
 
-/// Answers each line of a trace of pairs in order, as worker 0: a pair is new where no line before it has it, and its identifier is the pair
-/// as one number. A slot has so many bits. The gate is called before and after each line.
+/// Answers each line of a trace of pairs in order, as worker 0: a pair is new where no line before it has it,
+/// and its identifier is the pair as one number. A slot has so many bits. The gate is called before and after
+/// each line.
 pub fn insert_pairs<G: Gate>(
     alloc: Global,
     trace: &Trace,

@@ -27,7 +27,8 @@ use tree_shape::Shape;
 use tree_store::{CreateError, PlainPass, PlainStore, TreeStore};
 use work_run::run_lines;
 
-/// The reply to each line, the counts of the store, if they are asked for, and the vectors that were answered new, if the job prints them.
+/// The reply to each line, the counts of the store, if they are asked for, and the vectors that were answered
+/// new, if the job prints them.
 #[derive(Drop)]
 pub struct Answered {
     pub replies: Vec<Reply>,
@@ -99,7 +100,8 @@ fn stats_of<const W: u32, const F: u32>(
     })
 }
 
-// Inserts the lines into a new store of the choice, whose first pass this is. After `NoMemory` no line was inserted.
+// Inserts the lines into a new store of the choice, whose first pass this is. After `NoMemory` no line was
+// inserted.
 fn insert_lines<R: Threads + Sync, G: Gate, const W: u32, const F: u32>(
     rt: &R,
     alloc: Global,
@@ -163,10 +165,11 @@ fn insert_into<R: Threads + Sync, G: Gate, const W: u32, const F: u32>(
     insert_lines(rt, alloc, &store, &mut pass, choice, trace, room, gate)
 }
 
-/// Inserts the lines of a trace into a new plain store of the choice's profile and sizes: the reply to each line, and
-/// for `distinct` the vectors that were answered new, each read back by its identifier.
+/// Inserts the lines of a trace into a new plain store of the choice's profile and sizes: the reply to each
+/// line, and for `distinct` the vectors that were answered new, each read back by its identifier.
 ///
-/// `NoMemory` comes before the first line is inserted: that is told where the store is in hand, and no clause here can say it.
+/// `NoMemory` comes before the first line is inserted: that is told where the store is in hand, and no clause
+/// here can say it.
 pub fn insert_plain<R: Threads + Sync, G: Gate>(
     rt: &R,
     alloc: Global,

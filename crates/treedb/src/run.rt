@@ -1,5 +1,6 @@
 //! What the program does.
-ghost use Rattle.std.specs.Prelude.{◌≡◌, ◌≢◌, ◌&&◌, not, true, false, Some, IfNone, IfSome, map, string_bytes};
+ghost use Rattle.std.specs.Prelude.{◌≡◌, ◌≢◌, ◌&&◌, not, true, false, Some, IfNone, IfSome, map};
+ghost use Rattle.std.specs.Prelude.{string_bytes};
 ghost use Rattle.tdb_base.specs.Causes.{Rose};
 ghost use Rattle.command_line.specs.Rules.{is_compact};
 ghost use Rattle.command_line.specs.Valid.{IsValid};
@@ -32,7 +33,8 @@ fn answer_plain<R: Threads + Sync, S: Source, K: Sink, G: Gate>(
     requires plain { choice.now.mode ≡ Mode.Plain }
     ensures { EndsAs (Some choice.now)
         (record { left = S.left; faults = S.faults; old = source.old; new = source.new })
-        (record { taken = K.taken; faults = K.faults; settled = K.settled; old = sink.old; new = sink.new }) result }
+        (record { taken = K.taken; faults = K.faults; settled = K.settled; old = sink.old; new = sink.new })
+        result }
 {
     let trace = match take_trace(alloc, choice, source) {
         Ok(trace) => trace,
@@ -62,7 +64,8 @@ fn answer_pairs<S: Source, K: Sink, G: Gate>(
     requires quiet { choice.now.stats ≡ false }
     ensures { EndsAs (Some choice.now)
         (record { left = S.left; faults = S.faults; old = source.old; new = source.new })
-        (record { taken = K.taken; faults = K.faults; settled = K.settled; old = sink.old; new = sink.new }) result }
+        (record { taken = K.taken; faults = K.faults; settled = K.settled; old = sink.old; new = sink.new })
+        result }
 {
     let trace = match take_trace(alloc, choice, source) {
         Ok(trace) => trace,
@@ -93,7 +96,8 @@ fn answer_plain_words<R: Threads + Sync, S: Source, K: Sink, G: Gate>(
 ) -> Ended
     ensures { EndsAs (offered_plain (map string_bytes words.now))
         (record { left = S.left; faults = S.faults; old = source.old; new = source.new })
-        (record { taken = K.taken; faults = K.faults; settled = K.settled; old = sink.old; new = sink.new }) result }
+        (record { taken = K.taken; faults = K.faults; settled = K.settled; old = sink.old; new = sink.new })
+        result }
 {
     let choice = match choose(alloc, words) {
         Ok(choice) => choice,
@@ -131,12 +135,14 @@ fn answer_compact<S: Source, K: Sink, G: Gate>(
     sink: &mut K,
     gate: &G,
 ) -> Option<Ended>
-    ensures other { IfNone result (offered (map string_bytes words.now) ≡ offered_plain (map string_bytes words.now)) }
+    ensures other { IfNone result
+        (offered (map string_bytes words.now) ≡ offered_plain (map string_bytes words.now)) }
     ensures unread { IfNone result (source.new ≡ source.old) }
     ensures unwritten { IfNone result (sink.new ≡ sink.old) }
     ensures ended { IfSome result (λ ended. EndsAs (offered (map string_bytes words.now))
         (record { left = S.left; faults = S.faults; old = source.old; new = source.new })
-        (record { taken = K.taken; faults = K.faults; settled = K.settled; old = sink.old; new = sink.new }) ended) }
+        (record { taken = K.taken; faults = K.faults; settled = K.settled; old = sink.old; new = sink.new })
+        ended) }
 {
     let choice = match choose(alloc, words) {
         Ok(choice) => choice,
@@ -155,20 +161,32 @@ fn answer_compact<S: Source, K: Sink, G: Gate>(
 // Writes the note of the end: the status.
 fn tell<N: Sink>(ended: Ended, notes: &mut N) -> Status
     ensures status { result ≡ status_of ended }
-    ensures noted { IsNoted (record { taken = N.taken; faults = N.faults; settled = N.settled; old = notes.old; new = notes.new }) ended }
-    ensures settled { status_of ended ≢ Status.Done → (Rose (N.faults notes.old) (N.faults notes.new) → ⊥) → N.settled notes.new ≡ true }
+    ensures noted { IsNoted
+        (record {
+          taken = N.taken;
+          faults = N.faults;
+          settled = N.settled;
+          old = notes.old;
+          new =
+              notes.new;
+        }) ended }
+    ensures settled { status_of ended ≢ Status.Done → (Rose (N.faults notes.old) (N.faults notes.new) → ⊥)
+        → N.settled notes.new ≡ true }
     ensures done { status_of ended ≡ Status.Done → notes.new ≡ notes.old }
 {
     write_note(&ended, notes);
     ended.status()
 }
 
-/// What the program does in plain mode: the words choose, the lines are taken and inserted into a store by the workers, and the job's text is written.
+/// What the program does in plain mode: the words choose, the lines are taken and inserted into a store by
+/// the workers, and the job's text is written.
 ///
-/// The first refusal is the answer, and then the sink is as it was: `Usage` for words that choose nothing, and for compact mode;
-/// `ReadFault` and `TooMuch` (more than 67,108,864 bytes) for the input; `BadTrace` for bytes that are no trace. `NoMemory` comes before the first
-/// line is inserted, which no clause here can say, since no store is seen. `WriteFault` leaves a front of the text. `Full` is the answer where some line is full and the whole text was written. The note of
-/// the end goes to `notes` last, and a fault there changes nothing. It waits for nobody.
+/// The first refusal is the answer, and then the sink is as it was: `Usage` for words that choose nothing,
+/// and for compact mode; `ReadFault` and `TooMuch` (more than 67,108,864 bytes) for the input; `BadTrace` for
+/// bytes that are no trace. `NoMemory` comes before the first line is inserted, which no clause here can say,
+/// since no store is seen. `WriteFault` leaves a front of the text. `Full` is the answer where some line is
+/// full and the whole text was written. The note of the end goes to `notes` last, and a fault there changes
+/// nothing. It waits for nobody.
 pub fn run_plain<R: Threads + Sync, S: Source, K: Sink, N: Sink, G: Gate>(
     rt: &R,
     alloc: Global,
@@ -181,7 +199,8 @@ pub fn run_plain<R: Threads + Sync, S: Source, K: Sink, N: Sink, G: Gate>(
     ensures { RunEnds (offered_plain (map string_bytes words.now))
         (record { left = S.left; faults = S.faults; old = source.old; new = source.new })
         (record { taken = K.taken; faults = K.faults; settled = K.settled; old = sink.old; new = sink.new })
-        (record { taken = N.taken; faults = N.faults; settled = N.settled; old = notes.old; new = notes.new }) result }
+        (record { taken = N.taken; faults = N.faults; settled = N.settled; old = notes.old; new = notes.new })
+        result }
 {
     let ended = answer_plain_words(rt, alloc, words, source, sink, gate);
     tell(ended, notes)
@@ -189,8 +208,9 @@ pub fn run_plain<R: Threads + Sync, S: Source, K: Sink, N: Sink, G: Gate>(
 
 /// All that the program does, in either mode: `run_plain` says how a run goes and ends.
 ///
-/// Compact mode takes traces of pairs as yet, with one worker, for the job `insert`, and tells no statistics: other words are `Usage`, and a trace of
-/// other than two slots is `BadTrace`. There `NoMemory` may also come while lines are answered, and nothing was written then.
+/// Compact mode takes traces of pairs as yet, with one worker, for the job `insert`, and tells no statistics:
+/// other words are `Usage`, and a trace of other than two slots is `BadTrace`. There `NoMemory` may also come
+/// while lines are answered, and nothing was written then.
 pub fn run<R: Threads + Wait + Sync, S: Source, K: Sink, N: Sink, G: Gate>(
     rt: &R,
     alloc: Global,
@@ -203,7 +223,8 @@ pub fn run<R: Threads + Wait + Sync, S: Source, K: Sink, N: Sink, G: Gate>(
     ensures { RunEnds (offered (map string_bytes words.now))
         (record { left = S.left; faults = S.faults; old = source.old; new = source.new })
         (record { taken = K.taken; faults = K.faults; settled = K.settled; old = sink.old; new = sink.new })
-        (record { taken = N.taken; faults = N.faults; settled = N.settled; old = notes.old; new = notes.new }) result }
+        (record { taken = N.taken; faults = N.faults; settled = N.settled; old = notes.old; new = notes.new })
+        result }
 {
     match answer_compact(alloc, words, source, sink, gate) {
         Some(ended) => tell(ended, notes),

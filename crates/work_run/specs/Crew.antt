@@ -1,5 +1,6 @@
 -- Workers with a pass each: split from one pass in turn, and joined into it again.
-use Rattle.std.specs.Prelude.{◌≡◌, ◌<◌, ◌≤◌, ℕ, zero, suc, List, [], ◌∷◌, false, length, map, slice_index_or, vec_capacity}
+use Rattle.std.specs.Prelude.{◌≡◌, ◌<◌, ◌≤◌, ℕ, zero, suc, List, [], ◌∷◌, false, length, map, slice_index_or}
+use Rattle.std.specs.Prelude.{vec_capacity}
 use Rattle.tree_shape.specs.Tree.{Has, IsPart}
 use Rattle.pair_rule.specs.declared.view.View.{View}
 use Rattle.pair_rule.specs.declared.pass.PassOf.{PassOf}
@@ -21,7 +22,8 @@ module _ {T : Type 0} where
   joints join v (w ∷ ws) = joined_view join (joints join v ws) w
 
   module _ (part : Part T) (store : Store) where
-    -- the worker was hired, and has not begun: its pass was split from one with this view, and there is room for so many replies
+    -- the worker was hired, and has not begun: its pass was split from one with this view, and there is room
+    -- for so many replies
     pub record IsHired (before : View T) (number room : ℕ) (worker : Worker T) : Type 0 where
       pub number_is : worker.number ≡ number
       pub rest : AtRest part store worker.pass
@@ -31,24 +33,37 @@ module _ {T : Type 0} where
       pub no_replies : worker.replies.items ≡ []
       pub room_is : room ≤ vec_capacity worker.replies
 
-    -- these workers were hired in turn, with passes that were split from one pass, and room for so many replies each
+    -- these workers were hired in turn, with passes that were split from one pass, and room for so many
+    -- replies each
     pub record Hired (rooms : ℕ → ℕ) (base now : PassOf T) (crew : List (Worker T)) : Type 0 where
       pub rest : AtRest part store now
       pub pass_is : now ≡ record base { seat = now.seat }
       pub view_is : view now ≡ lefts (length crew) (view base)
-      pub each : (j : ℕ) (d : Worker T) → j < length crew → IsHired (lefts j (view base)) j (rooms j) (slice_index_or crew j d)
+      pub each : (j : ℕ) (d : Worker T) → j < length crew
+          → IsHired (lefts j (view base)) j (rooms j) (slice_index_or crew j d)
 
     -- other passes were joined into one
     pub record Joined (base now : PassOf T) (others : List (PassOf T)) : Type 0 where
       pub rest : AtRest part store now
-      pub pass_is : now ≡ record base { seat = now.seat; nodes_count = now.nodes_count; names_count = now.names_count }
+      pub pass_is : now ≡ record base {
+        seat = now.seat;
+        nodes_count = now.nodes_count;
+        names_count =
+            now.names_count;
+      }
       pub view_is : view now ≡ joints part.join (view base) (map view others)
       pub base_taken : HasTaken part (view base) (view now)
       pub taken : (p : PassOf T) → Has p others → HasTaken part (view p) (view now)
 
-  -- a pass from which passes were split and into which they were joined again, while none of them did anything
+  -- a pass from which passes were split and into which they were joined again, while none of them did
+  -- anything
   pub record Unused (old new : PassOf T) : Type 0 where
-    pub pass_is : new ≡ record old { seat = new.seat; nodes_count = new.nodes_count; names_count = new.names_count }
+    pub pass_is : new ≡ record old {
+      seat = new.seat;
+      nodes_count = new.nodes_count;
+      names_count =
+          new.names_count;
+    }
     pub seen : (view new).seen ≡ (view old).seen
     pub numbers : (c : ℕ) → Has c (view old).numbers → Has c (view new).numbers
     pub known : IsPart (view old).known (view new).known × IsPart (view new).known (view old).known

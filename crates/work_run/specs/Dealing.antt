@@ -10,7 +10,8 @@ WithinTheTrace = (lines workers block worker i : ℕ) → Contains (mine lines w
 -- no line is the line of two workers
 abbrev pub OneWorkerEach : Type 0
 OneWorkerEach =
-    (lines workers block one other i : ℕ) → Contains (mine lines workers block one) i → Contains (mine lines workers block other) i
+    (lines workers block one other i : ℕ) → Contains (mine lines workers block one) i
+    → Contains (mine lines workers block other) i
     → one ≡ other
 
 -- no worker has a line twice

@@ -21,4 +21,5 @@ IsOfOne about nodes vectors index = (v : Vector) × Has v vectors × IsInTree ab
 
 -- each node is in the tree of one of the vectors
 abbrev pub AreOfVectors : About → List (ℕ × ℕ) → List Vector → Type 0
-AreOfVectors about nodes vectors = (index pair : ℕ) → Has (index, pair) nodes → IsOfOne about nodes vectors index
+AreOfVectors about nodes vectors = (index pair : ℕ) → Has (index, pair) nodes
+    → IsOfOne about nodes vectors index

@@ -1,5 +1,6 @@
 -- What insertions leave of the pass that makes them.
-use Rattle.std.specs.Prelude.{◌≡◌, ◌+◌, ◌≤◌, ◌⊎◌, ℕ, true, List, [], ◌∷◌, ◌++◌, Option, Some, length, slice_get, if◌then◌else◌}
+use Rattle.std.specs.Prelude.{◌≡◌, ◌+◌, ◌≤◌, ◌⊎◌, ℕ, true, List, [], ◌∷◌, ◌++◌, Option, Some, length}
+use Rattle.std.specs.Prelude.{slice_get, if◌then◌else◌}
 use Rattle.tree_shape.specs.Tree.{Has, IsPart}
 use Rattle.tdb_base.specs.Agrees.{told}
 use Rattle.tdb_base.specs.History.{Vector, calls}
@@ -25,24 +26,31 @@ last_of last [] replies = last
 last_of last (v ∷ vectors) [] = last
 last_of last (v ∷ vectors) (reply ∷ replies) = last_of (last_after last v reply) vectors replies
 
--- how many nodes have to be put for some vectors: for each, those that differ from the last vector before it that was not full, or all
+-- how many nodes have to be put for some vectors: for each, those that differ from the last vector before it
+-- that was not full, or all
 abbrev pub puts_of : About → Option Vector → List Vector → List Reply → ℕ
 puts_of about last [] replies = 0
 puts_of about last (v ∷ vectors) [] = 0
-puts_of about last (v ∷ vectors) (reply ∷ replies) = puts_after about last v + puts_of about (last_after last v reply) vectors replies
+puts_of about last (v ∷ vectors) (reply ∷ replies) =
+    puts_after about last v + puts_of about (last_after last v reply) vectors replies
 
 -- the pass inserted these vectors, one after the other, and was answered so
-pub record Inserted {T : Type 0} (part : Part T) (store : Store) (vectors : List Vector) (replies : List Reply) (old new : PassOf T) : Type 0 where
+pub record Inserted {T : Type 0} (part : Part T) (store : Store) (vectors : List Vector)
+    (replies : List Reply) (old new : PassOf T) : Type 0 where
   pub one_each : length replies ≡ length vectors
   pub rest : AtRest part store new
   pub face_is : face (view new) ≡ face (view old)
   pub seen : Extends (view old).seen (view new).seen
   pub known : IsPart (view old).known (view new).known
   pub roots : IsPart (root_pairs part (view old)) (root_pairs part (view new))
-  pub own : calls (view new).seen (view old).number ≡ calls (view old).seen (view old).number ++ told (view old).number vectors replies
-  pub never : (i : ℕ) (v : Vector) (reply : Reply) → slice_get vectors i ≡ Some v → slice_get replies i ≡ Some reply → is_full reply ≡ true → NeverNamed part store new v
-  pub barred : (i : ℕ) (v : Vector) (reply : Reply) → slice_get vectors i ≡ Some v → slice_get replies i ≡ Some reply
+  pub own : calls (view new).seen (view old).number ≡ calls (view old).seen (view old).number ++ told
+      (view old).number vectors replies
+  pub never : (i : ℕ) (v : Vector) (reply : Reply) → slice_get vectors i ≡ Some v
+      → slice_get replies i ≡ Some reply → is_full reply ≡ true → NeverNamed part store new v
+  pub barred : (i : ℕ) (v : Vector) (reply : Reply) → slice_get vectors i ≡ Some v
+      → slice_get replies i ≡ Some reply
       → Barred part store.about (view new).known (root_pairs part (view new)) v reply
-  pub made : (index : ℕ) → Has index (view new).made → Has index (view old).made ⊎ IsOfOne store.about (view new).known vectors index
+  pub made : (index : ℕ) → Has index (view new).made
+      → Has index (view old).made ⊎ IsOfOne store.about (view new).known vectors index
   pub last : last_vector new ≡ last_of (last_vector old) vectors replies
   pub probes : (view new).probes ≤ (view old).probes + puts_of store.about (last_vector old) vectors replies

@@ -6,7 +6,8 @@ use Rattle.std.specs.List.{range_with_len}
 abbrev pub is_dealt : ℕ → ℕ → ℕ → ℕ → Bool
 is_dealt start block round i = nat_lt ((i - start) % round) block
 
--- the lines from `next` on that are dealt, where a block ends at `block_end` and the next one begins after the gap
+-- the lines from `next` on that are dealt, where a block ends at `block_end` and the next one begins after
+-- the gap
 unfoldable pub lines_to_come : ℕ → ℕ → ℕ → ℕ → ℕ → List ℕ
 lines_to_come lines block gap next block_end =
     filter (is_dealt (block_end - block) block (block + gap)) (range_with_len next (lines - next))

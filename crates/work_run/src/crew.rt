@@ -32,8 +32,8 @@ fn split_worker<R: RootPart<W, F>, const W: u32, const F: u32>(
     Ok(Worker::new(number, pass, replies))
 }
 
-/// So many workers, each with a pass that is split from this one, and with room for the replies to its lines. After `NoMemory` the passes that
-/// were split are joined back.
+/// So many workers, each with a pass that is split from this one, and with room for the replies to its lines.
+/// After `NoMemory` the passes that were split are joined back.
 pub(crate) fn split_workers<R: RootPart<W, F>, const W: u32, const F: u32>(
     alloc: Global,
     store: &TreeStore<R, W, F>,
@@ -46,7 +46,9 @@ pub(crate) fn split_workers<R: RootPart<W, F>, const W: u32, const F: u32>(
     requires workers { workers ≤ 64 }
     requires block { (1 ≤ block) × (block ≤ 65536) }
     requires lines { lines ≤ 2 ^ 32 }
-    ensures hired { IfOk result (λ crew. Hired R.part store.now (λ j. length (mine lines workers block j)) pass.old pass.new crew.items) }
+    ensures hired { IfOk result
+        (λ crew. Hired R.part store.now
+        (λ j. length (mine lines workers block j)) pass.old pass.new crew.items) }
     ensures all { IfOk result (λ crew. length crew.items ≡ workers) }
     ensures refused { OnErr result (Unused pass.old pass.new) }
     ensures refused_rest { OnErr result (AtRest R.part store.now pass.new) }

@@ -1,4 +1,5 @@
-// Runs of one to 64 workers, looked at from the outside: what they answered to which lines, and when the gate was called.
+// Runs of one to 64 workers, looked at from the outside: what they answered to which lines, and when the gate
+// was called.
 ghost use Rattle.std.specs.Prelude.{◌≡◌, ◌<◌, ◌≤◌, All, IfOk, length};
 ghost use Rattle.pair_rule.specs.Rest.{AtRest};
 ghost use Rattle.root_plain.specs.Plain.{plain};
@@ -104,7 +105,8 @@ pub(crate) fn run_or_retry<R: Threads + Abort + Sync, G: Gate>(
     Ok(replies)
 }
 
-// Keeps, digit by digit, for which lines it was called before and after, and with how many steps; and the sum of the workers' numbers.
+// Keeps, digit by digit, for which lines it was called before and after, and with how many steps; and the sum
+// of the workers' numbers.
 #[derive(Drop)]
 struct Diary {
     before: AtomicU64,
@@ -142,7 +144,8 @@ impl Gate for Diary {
     }
 }
 
-// A tree of three slots has a node, the pair of the last two, and a root. The second vector differs in its first slot alone, so only its root is put.
+// A tree of three slots has a node, the pair of the last two, and a root. The second vector differs in its
+// first slot alone, so only its root is put.
 #[test]
 fn tells_the_gate_of_each_line(rt: HostRuntime) -> Result<(), Fail> {
     let (store, mut pass) = store(rt.alloc(), 3, 3, 3)?;
@@ -159,8 +162,8 @@ fn tells_the_gate_of_each_line(rt: HostRuntime) -> Result<(), Fail> {
     Ok(())
 }
 
-// Whether so many workers, who all insert the same line, kept the order that a gate asks for: the line that is held
-// went on when the other one was done, and so isn't the one that is new.
+// Whether so many workers, who all insert the same line, kept the order that a gate asks for: the line that
+// is held went on when the other one was done, and so isn't the one that is new.
 fn keep_order<R: Threads + Abort + Sync>(
     rt: &R,
     alloc: Global,

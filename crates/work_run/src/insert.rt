@@ -29,7 +29,8 @@ fn insert_line<D: RootTable<W, F>, L: Ledger, const W: u32, const F: u32>(
     insert_from_last(roots, store, pass, line, steps)
 }
 
-/// The worker inserts its lines in rising order, and keeps the replies. The gate is called before and after each line.
+/// The worker inserts its lines in rising order, and keeps the replies. The gate is called before and after
+/// each line.
 pub(crate) fn insert_mine<D: RootTable<W, F>, G: Gate, const W: u32, const F: u32>(
     roots: &D,
     store: &TreeStore<D::Part, W, F>,
@@ -46,7 +47,8 @@ pub(crate) fn insert_mine<D: RootTable<W, F>, G: Gate, const W: u32, const F: u3
     requires block { (1 ≤ block) × (block ≤ 65536) }
     requires rest { AtRest D.Part.part store.now worker.old.pass }
     requires replies { worker.old.replies.items ≡ [] }
-    requires room { length (mine (length trace.now) workers block worker.old.number) ≤ vec_capacity worker.old.replies }
+    requires room { length
+        (mine (length trace.now) workers block worker.old.number) ≤ vec_capacity worker.old.replies }
     ensures inserted { Inserted D.Part.part store.now
         (picked trace.now (mine (length trace.now) workers block worker.old.number))
         worker.new.replies.items worker.old.pass worker.new.pass }

@@ -1,5 +1,5 @@
-//! One to 64 worker threads insert the lines of a trace into one store, each with a pass of its own. The lines are cut into blocks of so many lines,
-//! and the blocks are dealt out to the workers in turn.
+//! One to 64 worker threads insert the lines of a trace into one store, each with a pass of its own. The
+//! lines are cut into blocks of so many lines, and the blocks are dealt out to the workers in turn.
 #![tactic(auto)]
 
 mod crew;

@@ -1,14 +1,17 @@
-//! Which lines are a worker's. A trace's lines are numbered from 0 and cut into blocks; of `n` workers, worker `j` has the blocks
-//! `j`, `j + n`, `j + 2n` and so on.
+//! Which lines are a worker's. A trace's lines are numbered from 0 and cut into blocks; of `n` workers,
+//! worker `j` has the blocks `j`, `j + n`, `j + 2n` and so on.
 
 ghost use Rattle.std.specs.Prelude.{◌≡◌, ℕ, ◌<◌, ◌≤◌, ◌^◌, ◌↔◌, Some, None, length};
 ghost use Rattle.std.specs.List.{slice_get};
 ghost use Rattle.tdb_base.specs.Lines.{mine};
-ghost use Rattle.work_run.specs.Dealing.{WithinTheTrace, OneWorkerEach, OneTurnEach, EachHasAWorker, OneWorkerHasAll};
+ghost use Rattle.work_run.specs.Dealing.{WithinTheTrace, OneWorkerEach, OneTurnEach, EachHasAWorker};
+ghost use Rattle.work_run.specs.Dealing.{OneWorkerHasAll};
 
-/// The number of a worker's line, where `n` counts that worker's lines from 0: `None` where it has no more than `n` lines.
+/// The number of a worker's line, where `n` counts that worker's lines from 0: `None` where it has no more
+/// than `n` lines.
 ///
-/// Of 1 to 64 workers it is number `worker`, from 0. There are at most `2^32` lines, and 1 to 65536 in a block.
+/// Of 1 to 64 workers it is number `worker`, from 0. There are at most `2^32` lines, and 1 to 65536 in a
+/// block.
 pub fn line_of(lines: u64, workers: u64, block: u64, worker: u64, n: u64) -> Option<u64>
     requires workers { (worker < workers) × (workers ≤ 64) }
     requires block { (1 ≤ block) × (block ≤ 65536) }
@@ -53,8 +56,8 @@ pub(crate) fn turn_of(i: u64, workers: u64, block: u64) -> Turn
     }
 }
 
-/// The lines of a trace are dealt out to its workers: each worker's are lines of the trace, no line has two workers or comes twice, each line
-/// has a worker, and a worker alone has all lines in order.
+/// The lines of a trace are dealt out to its workers: each worker's are lines of the trace, no line has two
+/// workers or comes twice, each line has a worker, and a worker alone has all lines in order.
 pub fn lines_are_dealt_out()
     ensures within_the_trace { WithinTheTrace }
     ensures one_worker_each { OneWorkerEach }

@@ -15,14 +15,14 @@ use tdb_base::{Gate, NoMemory, Reply};
 use trace_csv::Trace;
 use tree_store::{PlainPass, PlainStore};
 
-/// Lets 1 to 64 workers insert the lines of a trace, each with a pass of its own that is split from `pass` and joined into
-/// it again: the reply to each line.
+/// Lets 1 to 64 workers insert the lines of a trace, each with a pass of its own that is split from `pass`
+/// and joined into it again: the reply to each line.
 ///
-/// The lines are those of the store, at most `2^32`, and are dealt out in blocks of 1 to 65536. The replies form one
-/// history with what the pass had seen, each worker's lines once and in their order. A line is full only where a pair of
-/// its vector's tree has no place then. The gate is called round each line, with the worker's number from 0, the line's
-/// from 1, and the steps of its insertion. All memory is taken before the first line is inserted: after `NoMemory` none
-/// was, and the pass has what it had. It waits for nobody.
+/// The lines are those of the store, at most `2^32`, and are dealt out in blocks of 1 to 65536. The replies
+/// form one history with what the pass had seen, each worker's lines once and in their order. A line is full
+/// only where a pair of its vector's tree has no place then. The gate is called round each line, with the
+/// worker's number from 0, the line's from 1, and the steps of its insertion. All memory is taken before the
+/// first line is inserted: after `NoMemory` none was, and the pass has what it had. It waits for nobody.
 pub fn run_lines<R: Threads + Sync, G: Gate, const W: u32, const F: u32>(
     rt: &R,
     alloc: Global,
@@ -51,7 +51,8 @@ pub fn run_lines<R: Threads + Sync, G: Gate, const W: u32, const F: u32>(
     Ok(replies)
 }
 
-/// A tree has `slots - 2` inner positions, and no line has to be put at more: that bounds the nodes that a run has to put, whoever inserts the lines.
+/// A tree has `slots - 2` inner positions, and no line has to be put at more: that bounds the nodes that a
+/// run has to put, whoever inserts the lines.
 pub fn puts_are_few()
     ensures { FewPuts }
 {}

@@ -1,4 +1,5 @@
-// Many schedules of 2 to 8 workers over small tables and ample ones: what they answered is compared line by line, and read back.
+// Many schedules of 2 to 8 workers over small tables and ample ones: what they answered is compared line by
+// line, and read back.
 ghost use Rattle.std.specs.Prelude.{◌≡◌, ◌<◌, ◌≤◌, length};
 ghost use Rattle.pair_rule.specs.Rest.{AtRest};
 ghost use Rattle.root_plain.specs.Plain.{plain};
@@ -13,7 +14,8 @@ use std::thread::Threads;
 use tdb_base::{Gate, NoGate, Reply};
 use trace_csv::Trace;
 
-// Holds each worker at its first line until all have begun, or for so many looks; and keeps for which of forty lines it was called.
+// Holds each worker at its first line until all have begun, or for so many looks; and keeps for which of
+// forty lines it was called.
 #[derive(Drop)]
 struct Watch {
     workers: u64,
@@ -105,7 +107,8 @@ fn forty_lines(alloc: Global, slots: usize, state: &mut u64) -> Result<Vec<u8>, 
     Ok(text)
 }
 
-// How many of the lines with this line's vector were answered that it is new, where all of them were answered alike, and no other line has its identifier.
+// How many of the lines with this line's vector were answered that it is new, where all of them were answered
+// alike, and no other line has its identifier.
 fn fresh_among(trace: &Trace, replies: &[Reply], i: u64) -> Option<u64>
     requires lines { i < length trace.now }
     requires replies { length replies.now ≡ length trace.now }
@@ -126,7 +129,8 @@ fn fresh_among(trace: &Trace, replies: &[Reply], i: u64) -> Option<u64>
     Some(fresh)
 }
 
-// Each vector that has a name was named once, and no two have one name: how many names there are, and how many lines have none.
+// Each vector that has a name was named once, and no two have one name: how many names there are, and how
+// many lines have none.
 fn count_names(rt: &impl Abort, trace: &Trace, replies: &[Reply]) -> (u64, u64)
     requires { length replies.now ≡ length trace.now }
 {
@@ -180,7 +184,8 @@ fn read_all_back(
     }
 }
 
-// Two runs on one store: the second one names nothing, and answers the identifiers of the first. How many lines were full.
+// Two runs on one store: the second one names nothing, and answers the identifiers of the first. How many
+// lines were full.
 fn try_schedule<R: Threads + Abort + Sync>(
     rt: &R,
     alloc: Global,

@@ -28,7 +28,8 @@ impl Model for Turns {
 }
 
 impl Turns {
-    /// All lines of worker number `worker`, from 0, of 1 to 64. There are at most `2^32` lines, and 1 to 65536 in a block.
+    /// All lines of worker number `worker`, from 0, of 1 to 64. There are at most `2^32` lines, and 1 to
+    /// 65536 in a block.
     pub(crate) fn new(lines: u64, workers: u64, block: u64, worker: u64) -> Self
         requires workers { (worker < workers) × (workers ≤ 64) }
         requires block { (1 ≤ block) × (block ≤ 65536) }

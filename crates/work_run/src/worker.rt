@@ -6,8 +6,9 @@ use tdb_base::Reply;
 
 /// A worker with a pass of its own, and the replies to its lines so far.
 ///
-/// Workers stand one behind the other in memory, and each writes its fields at each line. Two of them on one cache line would wait for each other's
-/// writes, so the gap behind a worker's fields keeps the next one's off their lines. The buffers of passes are set apart likewise.
+/// Workers stand one behind the other in memory, and each writes its fields at each line. Two of them on one
+/// cache line would wait for each other's writes, so the gap behind a worker's fields keeps the next one's
+/// off their lines. The buffers of passes are set apart likewise.
 #[repr(C)]
 pub struct Worker<T> {
     /// Its number among the workers, from 0.
