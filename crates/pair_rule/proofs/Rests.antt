@@ -1,5 +1,5 @@
 -- What is known of passes between calls, as they are made, split and joined.
-use Rattle.std.proofs.Common.{◌≡◌, ℕ, suc, ◌+◌, ◌*◌, ◌^◌, ◌<◌, ◌≤◌, List, [], ◌∷◌, ◌++◌, length, drop, get_or, false, true≢false, refl, sym, ap, ◌∙◌, subst, inl, inr, ⊎_elim, arith, length-append}
+use Rattle.std.proofs.Common.{◌≡◌, ℕ, suc, ◌+◌, ◌*◌, ◌^◌, ◌<◌, ◌≤◌, List, [], ◌∷◌, ◌++◌, length, drop, get_or, true, false, true≢false, refl, sym, ap, ◌∙◌, subst, inl, inr, ⊎_elim, arith, length-append}
 use Rattle.std.proofs.lemmas.Nat.{pow_below}
 use Rattle.atomic_table.specs.Table.{Me, Step, opening}
 use Rattle.atomic_table.specs.declared.shared.Seat.{Seat}
@@ -13,7 +13,7 @@ use Rattle.pair_rule.specs.declared.pass.PassOf.{PassOf}
 use Rattle.pair_rule.specs.Numbers.{child, Descends, itself, NoRepeats}
 use Rattle.pair_rule.specs.Laws.{IsAbout}
 use Rattle.pair_rule.specs.Part.{Store, Part}
-use Rattle.pair_rule.specs.View.{newcomer, longer, parent_view, child_view, joining_view, joined_view, old_of}
+use Rattle.pair_rule.specs.View.{longer, parent_view, child_view, joining_view, joined_view, old_of}
 use Rattle.pair_rule.specs.Paths.{node_buckets, size}
 use Rattle.pair_rule.specs.Rule.{Named, Kept}
 use Rattle.pair_rule.specs.Rest.{Sound, SeatRests, AtRest, names_of_callers}
@@ -169,20 +169,21 @@ module _ {T : Type 0} (part : Part T) where
   pub few_given : ((about : About) (v : View T) → part.sound about v → (id pair : ℕ) → Has (id, pair) (part.roots about v.seen v.root) → id < 2 ^ 62) → (v : View T) → Sound part v → names_of_callers v.numbers v.seen ≤ 4611686018427387904
   few_given small v s = few_names v.about.flags 4611686018427387904 v.numbers v.seen s.legal (λ x id n. let p = s.named.each x id n in small v.about v s.root_sound id p.0 p.1)
 
--- the first pass of a new table
-pub rests_new : {S T : Type 0} (part : Part T) (store : Store) (root : History → List ℕ → List (View T) → Type 0)
-    → SoundOf S store.about part root → Houses S store.about part root → IsAbout part.sized part.count store.about → (t : T) (words : List ℕ) (seat : Seat S (View T)) → Kept store.about (part.roots store.about) root {S = S} (opening words [] (newcomer t store.about))
-    → seat.table_id ≡ store.table → seat.me ≡ (newcomer t store.about, []) → SeatRests part store seat
-rests_new {S} {T} part store root sounds_of houses is_about t words seat kept same is =
-    let v : View T = newcomer t store.about in
-    let sound = sound_of S store.about part root sounds_of houses (opening words [] v) kept 0 v refl refl in
+-- the first pass of a table, whatever it knows
+pub rests_first : {S T : Type 0} (part : Part T) (store : Store) (root : History → List ℕ → List (View T) → Type 0)
+    → SoundOf S store.about part root → Houses S store.about part root → IsAbout part.sized part.count store.about
+    → (v : View T) (words : List ℕ) (seat : Seat S (View T)) → Kept store.about (part.roots store.about) root {S = S} (opening words [] v)
+    → v.live ≡ true → v.busy ≡ false → v.olds ≡ [] → v.about ≡ store.about
+    → seat.table_id ≡ store.table → seat.me ≡ (v, []) → SeatRests part store seat
+rests_first {S} {T} part store root sounds_of houses is_about v words seat kept live idle no_olds about same is =
+    let sound = sound_of S store.about part root sounds_of houses (opening words [] v) kept 0 v refl live in
     record {
       table_is = same;
       bare = ap (λ (m : Me S (View T)). m.1) is;
-      live = ap (λ (m : Me S (View T)). m.0.live) is;
-      idle = ap (λ (m : Me S (View T)). m.0.busy) is;
-      no_olds = ap (λ (m : Me S (View T)). m.0.olds) is;
-      about_is = ap (λ (m : Me S (View T)). m.0.about) is;
+      live = ap (λ (m : Me S (View T)). m.0.live) is ∙ live;
+      idle = ap (λ (m : Me S (View T)). m.0.busy) is ∙ idle;
+      no_olds = ap (λ (m : Me S (View T)). m.0.olds) is ∙ no_olds;
+      about_is = ap (λ (m : Me S (View T)). m.0.about) is ∙ about;
       is_about = is_about;
       sound = subst (Sound part) (sym (ap (λ (m : Me S (View T)). m.0) is)) sound;
     }

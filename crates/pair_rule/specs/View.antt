@@ -35,7 +35,7 @@ module _ {T : Type 0} where
     pub known : IsPart v.known w.known
     pub root : w.root ≡ v.root
 
-  -- the view of a table's first pass
+  -- the view of a new table's first pass
   abbrev pub newcomer : T → About → View T
   newcomer t about = record {
     live = true;

@@ -6,6 +6,7 @@
 
 mod full;
 mod no_root;
+mod opening;
 mod part;
 mod pass;
 pub mod plays;
@@ -14,15 +15,18 @@ mod sizes;
 mod splits;
 mod table;
 mod view;
+mod witness;
 
 pub use full::{NodesFull, RootsFull};
 pub use no_root::NoRoot;
+pub use opening::Opening;
 pub use part::RootPart;
 pub use pass::{Pass, PassOf};
 pub use rule::NodeRule;
 pub use sizes::{About, Sizes};
 pub use table::PairTable;
 pub use view::{Old, View};
+pub use witness::Witness;
 
 #[cfg(test)]
 mod tests;

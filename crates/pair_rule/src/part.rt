@@ -30,7 +30,7 @@ pub trait RootPart<const W: u32, const F: u32> {
     /// The rule on the history, the root words and the views.
     ghost holds: { About → History → List ℕ → List (View Self.View) → Type 0 };
 
-    /// What the first pass knows, and what is left of a pass that was joined into another.
+    /// What the first pass of a new table knows, and what is left of a pass that was joined into another.
     ghost first: { About → Self.View };
 
     ghost spent: { Self.View };

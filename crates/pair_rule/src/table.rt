@@ -5,11 +5,13 @@ ghost use Rattle.pair_rule.specs.Part.{IsTable};
 ghost use Rattle.pair_rule.specs.Rest.{AtRest, Whole, view};
 ghost use Rattle.pair_rule.specs.View.{newcomer};
 
+use crate::opening::Opening;
 use crate::part::RootPart;
 use crate::pass::{Buffers, Pass};
-use crate::rule::NodeRule;
+use crate::rule::{Newcomer, NodeRule};
 use crate::sizes::{About, Sizes};
 use crate::view::View;
+use crate::witness::Witness;
 use atomic_table::{Shared, Table};
 use std::alloc::Global;
 use std::marker::Model;
@@ -19,7 +21,7 @@ use tdb_base::NoMemory;
 ///
 /// Contracts see it as the store: which table it is, and what that is about.
 pub struct PairTable<R: RootPart<W, F>, const W: u32, const F: u32> {
-    table: Table<(), View<R::View>, About, NodeRule<R, W, F>, Global>,
+    table: Table<(), View<R::View>, Opening<View<R::View>>, NodeRule<R, W, F>, Global>,
     about: About,
 }
 
@@ -31,7 +33,7 @@ impl<R: RootPart<W, F>, const W: u32, const F: u32> Model for PairTable<R, W, F>
 
     ghost view = { λ t. record { table = t.table.shared.table_id; about = t.about } };
 
-    ghost invariant = { λ t. (t.table.shared.key ≡ t.about)
+    ghost invariant = { λ t. (t.table.shared.key.about ≡ t.about)
         × IsTable W F R.part (record { table = t.table.shared.table_id; about = t.about }) };
 }
 
@@ -78,14 +80,18 @@ impl<R: RootPart<W, F>, const W: u32, const F: u32> PairTable<R, W, F> {
         };
         let buffers = Buffers::new(alloc, slots)?;
         let words = zeros(alloc, 1 + bucket_count(sizes.nodes) + root_words)?;
-        let (table, seat) = Table::of_words(alloc, words.as_slice(), &about)?;
+        let opening = Opening {
+            about,
+            first: Witness::of::<About, Newcomer<R, W, F>>(&about),
+        };
+        let (table, seat) = Table::of_words(alloc, words.as_slice(), &opening)?;
         Ok((PairTable { table, about }, buffers.with_seat(seat)))
     }
 
     /// The words, under the rule. The layers of the store step through it.
-    pub fn shared(&self) -> &Shared<(), View<R::View>, About, NodeRule<R, W, F>>
+    pub fn shared(&self) -> &Shared<(), View<R::View>, Opening<View<R::View>>, NodeRule<R, W, F>>
         ensures table { result.now.table_id ≡ self.now.table }
-        ensures key { result.now.key ≡ self.now.about }
+        ensures key { result.now.key.about ≡ self.now.about }
         ensures store { IsTable W F R.part self.now }
     {
         &self.table.shared

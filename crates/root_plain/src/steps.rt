@@ -15,7 +15,7 @@ ghost use Rattle.root_plain.specs.declared.plays.Wanted.TheVariants.{Pair};
 use crate::plays::{Asks, Claiming, Seeking, Wanted};
 use crate::root::{PlainRoot, Roots};
 use atomic_table::{Seat, Shared, TableRule};
-use pair_rule::{About, NodeRule, PairTable, Pass, View};
+use pair_rule::{NodeRule, Opening, PairTable, Pass, View};
 use std::marker::Brand;
 
 // The word of a root's bucket.
@@ -29,8 +29,8 @@ fn root_word(nodes: u32, at: u64) -> usize
 
 // A load that is told what is wanted. It has no const parameter, since a call could not pick `B` then.
 #[inline]
-fn load_asked<B: Asks, P: TableRule<(), View<Roots>, About>>(
-    shared: &Shared<(), View<Roots>, About, P>,
+fn load_asked<B: Asks, P: TableRule<(), View<Roots>, Opening<View<Roots>>>>(
+    shared: &Shared<(), View<Roots>, Opening<View<Roots>>, P>,
     seat: &mut Seat<(), View<Roots>>,
     word: usize,
     wanted: &Wanted,

@@ -13,6 +13,7 @@ overflow_add-at g c = let small = buckets_small (node_buckets c.args.table.now.a
 pub load-requires : goal.load-requires
 load-requires g c =
     let t = c.shared-shared.result.now in
+    let about = t.key.about in
     let e = c.shared-shared.ensures in
     let key = e.key in
     let words = ap (λ z. z.words) e.table in
@@ -20,7 +21,7 @@ load-requires g c =
     let about_is = c.requires.rest.seat.about_is ∙ sym key in (
       c.requires.rest.seat.table_is ∙ sym e.table,
       omega (arith, words, e.store.words_are),
-      begins _ t.key g.R.RootPart.part (g.R.RootPart.holds t.key) (g.met.R.RootPart.sounds t.key) (g.met.R.RootPart.houses t.key) (g.met.R.RootPart.keeps t.key) t.table_id.slots
+      begins _ about g.R.RootPart.part (g.R.RootPart.holds about) (g.met.R.RootPart.sounds about) (g.met.R.RootPart.houses about) (g.met.R.RootPart.keeps about) t.table_id.slots
           c.args.pass.now.seat.id c.args.pass.now.seat.me c.args.at (c.args.at + 1) (omega arith) inside c.requires.rest.seat.live about_is c.requires.rest.seat.no_olds,
     )
 

@@ -15,6 +15,7 @@ overflow_add-at g c = let small = buckets_small (node_buckets c.args.table.now.a
 pub compare_exchange-found-requires : goal.compare_exchange-found-requires
 compare_exchange-found-requires g c =
     let t = c.shared-shared.result.now in
+    let about = t.key.about in
     let e = c.shared-shared.ensures in
     let key = e.key in
     let words = ap (λ z. z.words) e.table in
@@ -30,7 +31,7 @@ compare_exchange-found-requires g c =
     let passed = subst (λ (a : About). Passed (node_buckets a) (Listed v.known) pair step) about_is r.passed.3 in (
       r.rest.seat.table_is ∙ sym e.table,
       omega (arith, words, e.store.words_are),
-      puts _ t.key g.R.RootPart.part (g.R.RootPart.holds t.key) (g.met.R.RootPart.sounds t.key) (g.met.R.RootPart.houses t.key) (g.met.R.RootPart.keeps t.key) t.table_id.slots
+      puts _ about g.R.RootPart.part (g.R.RootPart.holds about) (g.met.R.RootPart.sounds about) (g.met.R.RootPart.houses about) (g.met.R.RootPart.keeps about) t.table_id.slots
           c.args.pass.now.seat.id c.args.pass.now.seat.me c.args.at (c.args.at + 1) pair step c.args.word (omega arith) inside r.rest.seat.live about_is r.rest.seat.no_olds r.probing r.pair.0 is_pair near lies passed,
     )
 

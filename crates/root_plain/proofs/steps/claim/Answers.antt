@@ -22,7 +22,7 @@ compare_exchange-found-requires g c =
     let w = c.requires.passed in (
       c.requires.rest.seat.table_is ∙ sym e.table,
       word_inside about c.args.at c.root_word-place.result _ c.requires.rest.seat.is_about here c.requires.inside (ap (λ t. t.words) e.table ∙ e.store.words_are),
-      claim_allowed c.args.table.now c.shared-shared.result.now.key c.args.pass.now _ c.args.at c.root_word-place.result (pair_of_word c.args.word) w.0 c.args.word c.requires.stands.0 c.requires.rest e.key here c.requires.inside
+      claim_allowed c.args.table.now c.shared-shared.result.now.key.about c.args.pass.now _ c.args.at c.root_word-place.result (pair_of_word c.args.word) w.0 c.args.word c.requires.stands.0 c.requires.rest e.key here c.requires.inside
           c.requires.word.whole c.requires.word.is_pair w.1 w.2 w.3 c.requires.stands.1 c.requires.stands.2,
     )
 

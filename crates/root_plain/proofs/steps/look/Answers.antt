@@ -21,7 +21,7 @@ pub load_asked-requires-clause-rule : goal.load_asked-requires-clause-rule
 load_asked-requires-clause-rule g c =
     let about = c.args.table.now.about in
     let here = word_of_bucket about c.sizes-sizes.result.now c.args.at c.root_word-place.result c.sizes-sizes.ensures.sizes c.root_word-place.ensures in
-    look_allowed c.args.table.now c.shared.result.now.key c.args.pass.now (wants c.args.wanted.now) _ c.args.at c.root_word-place.result c.requires.rest c.shared.ensures.key here c.requires.inside
+    look_allowed c.args.table.now c.shared.result.now.key.about c.args.pass.now (wants c.args.wanted.now) _ c.args.at c.root_word-place.result c.requires.rest c.shared.ensures.key here c.requires.inside
 
 pub returns-clause-shows : goal.returns-clause-shows
 returns-clause-shows g c =

@@ -6,26 +6,26 @@ use Rattle.pair_rule.proofs.table.PairTable.join_seat.Goals as goal
 
 pub join_seat-requires : goal.join_seat-requires
 join_seat-requires g c =
-    let key = c.shared-shared.result.now.key in
+    let about = c.shared-shared.result.now.key.about in
     let store = c.shared-shared.ensures.store in
     let part = g.R.RootPart.part in (
       c.requires.seat.table_is ∙ sym c.shared-shared.ensures.table,
       c.requires.other.table_is ∙ sym c.shared-shared.ensures.table,
       c.requires.other.bare,
       (let words = ap (λ t. t.words) c.shared-shared.ensures.table in omega (arith, words, store.words_are)),
-      joins _ key part.roots (g.R.RootPart.holds key) part.join g.R.RootPart.spent (g.met.R.RootPart.roots_join key) (g.met.R.RootPart.roots_either key) (g.met.R.RootPart.roots_spent key)
-          (g.met.R.RootPart.keeps_join key) c.args.seat.now.id c.args.other.id c.args.seat.now.me.0 c.args.other.me.0 c.requires.seat.live c.requires.seat.idle c.requires.other.idle,
+      joins _ about part.roots (g.R.RootPart.holds about) part.join g.R.RootPart.spent (g.met.R.RootPart.roots_join about) (g.met.R.RootPart.roots_either about) (g.met.R.RootPart.roots_spent about)
+          (g.met.R.RootPart.keeps_join about) c.args.seat.now.id c.args.other.id c.args.seat.now.me.0 c.args.other.me.0 c.requires.seat.live c.requires.seat.idle c.requires.other.idle,
     )
 
 pub load-requires : goal.load-requires
 load-requires g c =
     let shared = c.shared-shared.result.now in
-    let key = shared.key in
+    let about = shared.key.about in
     let store = c.shared-shared.ensures.store in
     let e = c.join_seat.ensures in (
       e.0 ∙ (c.requires.seat.table_is ∙ sym c.shared-shared.ensures.table),
       (let words = ap (λ t. t.words) c.shared-shared.ensures.table in omega (arith, words, store.words_are)),
-      after_joins _ key g.R.RootPart.part (g.R.RootPart.holds key) (g.met.R.RootPart.sounds key) (g.met.R.RootPart.houses key) (g.met.R.RootPart.keeps key)
+      after_joins _ about g.R.RootPart.part (g.R.RootPart.holds about) (g.met.R.RootPart.sounds about) (g.met.R.RootPart.houses about) (g.met.R.RootPart.keeps about)
           shared.table_id.slots c.join_seat.new.seat.id c.join_seat.new.seat.me 0 refl (ap (λ m. m.0.live) e.2 ∙ c.requires.seat.live),
     )
 

@@ -5,12 +5,12 @@ use Rattle.pair_rule.proofs.table.PairTable.split_seat.Goals as goal
 
 pub split_seat-requires : goal.split_seat-requires
 split_seat-requires g c =
-    let key = c.shared-shared.result.now.key in
+    let about = c.shared-shared.result.now.key.about in
     let store = c.shared-shared.ensures.store in
     let part = g.R.RootPart.part in (
       c.requires.table_is ∙ sym c.shared-shared.ensures.table,
       (let words = ap (λ t. t.words) c.shared-shared.ensures.table in omega (arith, words, store.words_are)),
-      splits _ key part.roots (g.R.RootPart.holds key) part.split (g.met.R.RootPart.roots_split key) (g.met.R.RootPart.keeps_split key)
+      splits _ about part.roots (g.R.RootPart.holds about) part.split (g.met.R.RootPart.roots_split about) (g.met.R.RootPart.keeps_split about)
           c.args.seat.now.id c.args.seat.now.me.0 c.requires.live,
     )
 
