@@ -1,3 +1,4 @@
+//! A caller's pass: its seat at the table, its buffers and its counts.
 ghost use Rattle.std.specs.Prelude.{◌≡◌, ◌*◌, ◌<◌, ◌≤◌, IfOk, length, false};
 
 use crate::part::RootPart;

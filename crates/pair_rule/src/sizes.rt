@@ -1,3 +1,5 @@
+//! The sizes of a store, and what its table is about.
+
 /// How large the tables of a store are, and how far a path goes.
 #[derive(Clone, Copy, Debug, PartialEq, Eq)]
 pub struct Sizes {

@@ -1,3 +1,5 @@
+//! Passes of a table of nodes alone are split, told of one another, and joined.
+
 use super::{NoRoot, PairTable, Sizes};
 use std::test::Fail;
 

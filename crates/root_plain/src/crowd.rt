@@ -1,4 +1,5 @@
-// Two to eight threads put the same roots and different ones into small tables, and what each saw is compared.
+//! Two to eight threads put the same roots and different ones into small tables, and what each saw is
+//! compared.
 ghost use Rattle.std.specs.Prelude.{◌≡◌, ◌<◌, ◌≤◌, All, IfOk};
 ghost use Rattle.pair_rule.specs.Rest.{AtRest};
 ghost use Rattle.root_plain.specs.Plain.{plain};

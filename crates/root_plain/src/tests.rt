@@ -1,4 +1,4 @@
-// Stores of two slots, whose roots are the vectors themselves. The buckets are those of hashes that were computed by hand.
+//! Stores of two slots, whose roots are the vectors themselves, with buckets of hashes computed by hand.
 ghost use Rattle.std.specs.Prelude.{◌≡◌, ◌^◌, ◌<◌, ◌≤◌, IfOk, MatchOption, Some};
 ghost use Rattle.tdb_base.specs.History.{Vector, name_of};
 ghost use Rattle.pair_rule.specs.Rest.{AtRest, view};

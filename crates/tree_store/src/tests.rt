@@ -1,5 +1,5 @@
-// Stores of small sizes. The identifiers are buckets of hashes that were computed by hand; which lines are
-// full is a matter of counting nodes and roots.
+//! Stores of small sizes, whose answers were worked out by hand: the identifiers are buckets of hashes, and
+//! which lines are full is a matter of counting nodes and roots.
 ghost use Rattle.std.specs.Prelude.{◌≡◌, Some};
 ghost use Rattle.packed_word.specs.Word.{IsLayout};
 ghost use Rattle.tdb_base.specs.History.{Vector, name_of};

@@ -1,3 +1,4 @@
+//! `distinct` over bytes in memory: what it writes, and with which status it ends.
 ghost use Rattle.std.specs.Prelude.{◌<◌};
 
 use crate::run::run_plain;

@@ -1,3 +1,4 @@
+//! How a run ended, and its exit status.
 ghost use Rattle.std.specs.Prelude.{◌≡◌};
 ghost use Rattle.treedb.specs.Note.{status_of};
 

@@ -1,3 +1,5 @@
+//! Each end of a run, with its exit status and its note.
+
 use crate::ended::{Ended, Refusal};
 use crate::notes::write_note;
 use std::test::Fail;

@@ -1,5 +1,5 @@
-// The program over bytes in memory: what it answers, writes and notes. The identifiers in plain mode were
-// computed apart from the program, by a script of the hash, the probe path and the tree.
+//! The program over bytes in memory: what it answers, writes and notes. The identifiers in plain mode were
+//! computed apart from the program, by a script of the hash, the probe path and the tree.
 ghost use Rattle.std.specs.Prelude.{◌<◌};
 
 mod faults;

@@ -1,5 +1,5 @@
-// Runs of one to 64 workers, looked at from the outside: what they answered to which lines, and when the gate
-// was called.
+//! Runs of one to 64 workers, looked at from the outside: what they answered to which lines, and when the
+//! gate was called.
 ghost use Rattle.std.specs.Prelude.{◌≡◌, ◌<◌, ◌≤◌, All, IfOk, length};
 ghost use Rattle.pair_rule.specs.Rest.{AtRest};
 ghost use Rattle.root_plain.specs.Plain.{plain};

@@ -1,5 +1,5 @@
-// Many schedules of 2 to 8 workers over small tables and ample ones: what they answered is compared line by
-// line, and read back.
+//! Many schedules of 2 to 8 workers over small tables and ample ones: what they answered is compared line by
+//! line, and read back.
 ghost use Rattle.std.specs.Prelude.{◌≡◌, ◌<◌, ◌≤◌, length};
 ghost use Rattle.pair_rule.specs.Rest.{AtRest};
 ghost use Rattle.root_plain.specs.Plain.{plain};

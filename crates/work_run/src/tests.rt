@@ -1,4 +1,4 @@
-// The lines of workers against the definition, tried line by line.
+//! The lines of workers against the definition, tried line by line.
 use super::line_of;
 use super::lines::{Turn, count_of, turn_of};
 use super::turns::Turns;

@@ -1,3 +1,4 @@
+//! The text of a note, put together on the stack.
 ghost use Rattle.std.specs.Prelude.{◌≡◌, ◌+◌, ◌≤◌, ℕ, List, ◌++◌, length, take};
 ghost use Rattle.std.specs.Fmt.{decimal};
 

@@ -1,4 +1,4 @@
-// Inputs and devices that fail.
+//! Inputs and devices that fail.
 use super::{Devices, SOUND, run_on, run_plain_on};
 use std::test::Fail;
 use tdb_base::{NoGate, Status};

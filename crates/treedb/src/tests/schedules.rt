@@ -1,4 +1,4 @@
-// Runs of one worker and of many, in several orders.
+//! Runs of one worker and of many, in several orders.
 use super::{Devices, SOUND, run_on, run_plain_on};
 use std::alloc::Global;
 use std::test::Fail;
