@@ -1,4 +1,4 @@
-use Rattle.std.proofs.Common.{◌<◌, ◌^◌, ℕ, arith, rules, subst, sym}
+use Rattle.std.proofs.Common.{◌<◌, ◌^◌, ℕ, rules, subst, sym}
 use Rattle.measure.proofs.nodes.put_all.Goals as goal
 
 pub find_or_put-requires : goal.find_or_put-requires
