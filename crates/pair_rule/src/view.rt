@@ -2,7 +2,7 @@
 
 use crate::sizes::About;
 use std::collections::LinkedList;
-use tdb_base::plain::Entry;
+use tdb_base::Entry;
 
 /// What one of two views knew that were joined.
 pub struct Old {

@@ -3,6 +3,7 @@ pub mod Fakes
 pub mod Codes
 pub mod Replies
 pub mod History
+pub mod Acts
 pub mod Legal
 pub mod Lines
 pub mod Agrees

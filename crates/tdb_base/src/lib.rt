@@ -3,6 +3,7 @@
 #![tactic(auto)]
 
 mod gate;
+mod history;
 mod laws;
 pub mod plain;
 mod reply;
@@ -12,6 +13,7 @@ mod standard;
 mod steps;
 
 pub use gate::{Gate, NoGate, TurnGate};
+pub use history::{Act, Entry};
 pub use laws::{
     callers_may_be_renumbered, names_are_given_by_entries, names_are_kept, puts_need_no_flags,
     replies_tell_of_lines,

@@ -7,15 +7,16 @@ ghost use Rattle.tdb_base.specs.Agrees.{Agrees, AgreesAmongOthers, entry_at, ent
 ghost use Rattle.tdb_base.specs.History as h;
 ghost use Rattle.tdb_base.specs.Legal.{Extends};
 ghost use Rattle.tdb_base.specs.Lines as lines;
-ghost use Rattle.tdb_base.specs.Plain.{act_of, FlagsBelow32};
+ghost use Rattle.tdb_base.specs.Acts.{act_of};
+ghost use Rattle.tdb_base.specs.Plain.{FlagsBelow32};
 ghost use Rattle.tdb_base.specs.Replies as answers;
 ghost use Rattle.tdb_base.specs.declared.reply.Reply.{Reply};
 
 #[cfg(test)]
 mod tests;
 
-use crate::Reply;
-use crate::plain::{Act, Entry, is_legal, name_of};
+use crate::plain::{is_legal, name_of};
+use crate::{Act, Entry, Reply};
 
 /// Whether the replies to the lines of a trace, dealt out in blocks of `block` lines to so many workers, who are these callers, form one history
 /// that goes on from an earlier one, of vectors with so many flags, and nobody else called after that.

@@ -1,10 +1,12 @@
 //! The definitions on small cases, whose answers were worked out by hand.
 
 ghost use Rattle.std.specs.Prelude.{◌^◌, ◌<◌, ◌↔◌, All, IfOk, IsTrue, length};
-ghost use Rattle.tdb_base.specs.Plain.{act_of, BitBelow32, FlagsBelow32};
+ghost use Rattle.tdb_base.specs.Acts.{act_of};
+ghost use Rattle.tdb_base.specs.Plain.{BitBelow32, FlagsBelow32};
 
-use super::{Act, Entry, distinct_count, flags_of, is_legal, mine, name_of};
+use super::{distinct_count, flags_of, is_legal, mine, name_of};
 use crate::tests::all_right;
+use crate::{Act, Entry};
 use std::alloc::{AllocError, Global};
 use std::process::Abort;
 use std::test::Fail;

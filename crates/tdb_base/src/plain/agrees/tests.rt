@@ -1,10 +1,9 @@
 //! Agreement on small runs, which were worked out by hand.
 
 use super::{agrees, agrees_among_others};
-use crate::Reply;
-use crate::plain::Act;
 use crate::plain::tests::{A, B, C, Call, FRESH, SEEN, history, vectors};
 use crate::tests::all_right;
+use crate::{Act, Reply};
 use std::alloc::{AllocError, Global};
 use std::process::Abort;
 use std::test::Fail;
