@@ -3,18 +3,18 @@ use Rattle.std.proofs.Common.{◌≡◌, ◌≢◌, ◌≤◌, ◌<◌, ◌+◌,
 use Rattle.std.proofs.lemmas.List.{take_all, take_more}
 use Rattle.std.proofs.lemmas.List.Elements.{filter-append, filter_map-append}
 use Rattle.std.proofs.lemmas.Option.{slice_get_within, slice_get_past, get_or_from_slice_get}
-use Rattle.std.specs.Prelude.{◌&&◌, ◌==◌, ◌↔◌, IsTrue, filter, if◌then◌else◌, is_some, not, nat_lt, slice_get}
+use Rattle.std.specs.Prelude.{◌&&◌, ◌==◌, ◌↔◌, IsTrue, filter, flat_map, if◌then◌else◌, is_some, not, nat_lt, slice_get}
 use Rattle.std.specs.List.{filter_map}
 use Rattle.std.specs.Option.{option_copied}
 use Rattle.std.specs.Borrow.{Bor}
-use Rattle.tdb_base.specs.Agrees.{entry_at, entry_of}
+use Rattle.tdb_base.specs.Agrees.{entries_of_insertion, entry_of, entry_of_line}
 use Rattle.tdb_base.specs.History.{Vector, Entry, History, calls}
 use Rattle.tdb_base.specs.Lines.{mine}
 use Rattle.tdb_base.specs.Replies.{is_full}
 use Rattle.tdb_base.specs.declared.reply.Reply.{Reply}
 use Rattle.tdb_base.specs.declared.reply.Reply.TheVariants as r
 use Rattle.tdb_base.proofs.DistinctLemmas.{mine-more}
-use Rattle.tdb_base.proofs.ListLemmas.{At, at-filter, at-within}
+use Rattle.tdb_base.proofs.ListLemmas.{At, at-filter, at-within, flat_map-options}
 
 pub at-after : {A : Type 0} (xs ys : List A) (x : A) (k : ℕ) → slice_get ys k ≡ Some x → slice_get (xs ++ ys) (k + length xs) ≡ Some x
 at-after [] ys x k e = let same : k ≡ k + 0 = omega arith in subst (λ (n : ℕ). slice_get ys n ≡ Some x) same e
@@ -100,19 +100,24 @@ full-silent c v r.FullNodes f = refl
 full-silent c v r.FullRoots f = refl
 
 pub at-line : (c : ℕ) (trace : List Vector) (replies : List Reply) (i : ℕ) (v : Vector) (reply : Reply) → slice_get trace i ≡ Some v → slice_get replies i ≡ Some reply
-    → entry_at c trace replies i ≡ entry_of c v reply
+    → entry_of_line c trace replies i ≡ entry_of c v reply
 at-line c trace replies i v reply a b = rw (a, b) refl
 
--- the entries that the replies to the first lines of a worker's tell of
-abbrev pub worker_told : ℕ → List Vector → List Reply → ℕ → ℕ → ℕ → ℕ → List Entry
-worker_told c trace replies workers block worker lines = filter_map (entry_at c trace replies) (mine lines workers block worker)
+-- inserting some lines makes the entries that the replies to them tell of
+pub insertion-entries : (c : ℕ) (trace : List Vector) (replies : List Reply) (places : List ℕ)
+    → flat_map (entries_of_insertion trace replies c) places ≡ filter_map (entry_of_line c trace replies) places
+insertion-entries c trace replies places = flat_map-options (entry_of_line c trace replies) places
 
-told-line : (c : ℕ) (trace : List Vector) (replies : List Reply) (workers block worker i : ℕ)
-    → worker_told c trace replies workers block worker (i + 1)
-    ≡ worker_told c trace replies workers block worker i ++ filter_map (entry_at c trace replies) (if i / block % workers == worker then i ∷ [] else [])
-told-line c trace replies workers block worker i =
-    ap (filter_map (entry_at c trace replies)) (mine-more i workers block worker)
-    ∙ filter_map-append (entry_at c trace replies) (mine i workers block worker) (if i / block % workers == worker then i ∷ [] else [])
+-- the entries that the replies to the first lines of a worker's tell of
+abbrev pub dealt_entries : ℕ → List Vector → List Reply → ℕ → ℕ → ℕ → ℕ → List Entry
+dealt_entries c trace replies workers block worker lines = filter_map (entry_of_line c trace replies) (mine lines workers block worker)
+
+entries-line : (c : ℕ) (trace : List Vector) (replies : List Reply) (workers block worker i : ℕ)
+    → dealt_entries c trace replies workers block worker (i + 1)
+    ≡ dealt_entries c trace replies workers block worker i ++ filter_map (entry_of_line c trace replies) (if i / block % workers == worker then i ∷ [] else [])
+entries-line c trace replies workers block worker i =
+    ap (filter_map (entry_of_line c trace replies)) (mine-more i workers block worker)
+    ∙ filter_map-append (entry_of_line c trace replies) (mine i workers block worker) (if i / block % workers == worker then i ∷ [] else [])
 
 both : (a b : Bool) → true ≡ (a && b) → (a ≡ true) × (b ≡ true)
 both true true e = (refl, refl)
@@ -120,25 +125,25 @@ both true false e = cc e
 both false b e = cc e
 
 -- one line more, which tells of an entry or not
-pub told-more : (c : ℕ) (trace : List Vector) (replies : List Reply) (workers block worker i : ℕ) (v : Vector) (reply : Reply) (e : Entry)
+pub entries-more : (c : ℕ) (trace : List Vector) (replies : List Reply) (workers block worker i : ℕ) (v : Vector) (reply : Reply) (e : Entry)
     → slice_get trace i ≡ Some v → slice_get replies i ≡ Some reply → true ≡ ((i / block % workers == worker) && not (is_full reply)) → entry_of c v reply ≡ Some e
-    → worker_told c trace replies workers block worker (i + 1) ≡ worker_told c trace replies workers block worker i ++ e ∷ []
-told-more c trace replies workers block worker i v reply e a b tells is =
+    → dealt_entries c trace replies workers block worker (i + 1) ≡ dealt_entries c trace replies workers block worker i ++ e ∷ []
+entries-more c trace replies workers block worker i v reply e a b tells is =
     let own = (both (i / block % workers == worker) (not (is_full reply)) tells).0 in
-    let here : entry_at c trace replies i ≡ Some e = at-line c trace replies i v reply a b ∙ is in
-    told-line c trace replies workers block worker i ∙ ap (λ (t : List Entry). worker_told c trace replies workers block worker i ++ t) (rw (own, here) refl)
+    let here : entry_of_line c trace replies i ≡ Some e = at-line c trace replies i v reply a b ∙ is in
+    entries-line c trace replies workers block worker i ∙ ap (λ (t : List Entry). dealt_entries c trace replies workers block worker i ++ t) (rw (own, here) refl)
 
-pub told-same : (c : ℕ) (trace : List Vector) (replies : List Reply) (workers block worker i : ℕ) (v : Vector) (reply : Reply)
+pub entries-same : (c : ℕ) (trace : List Vector) (replies : List Reply) (workers block worker i : ℕ) (v : Vector) (reply : Reply)
     → slice_get trace i ≡ Some v → slice_get replies i ≡ Some reply → false ≡ ((i / block % workers == worker) && not (is_full reply))
-    → worker_told c trace replies workers block worker (i + 1) ≡ worker_told c trace replies workers block worker i
-told-same c trace replies workers block worker i v reply a b silent =
-    told-line c trace replies workers block worker i
-    ∙ ap (λ (t : List Entry). worker_told c trace replies workers block worker i ++ t) (by (i / block % workers == worker) (is_full reply) refl silent)
-    ∙ append-nil (worker_told c trace replies workers block worker i)
+    → dealt_entries c trace replies workers block worker (i + 1) ≡ dealt_entries c trace replies workers block worker i
+entries-same c trace replies workers block worker i v reply a b silent =
+    entries-line c trace replies workers block worker i
+    ∙ ap (λ (t : List Entry). dealt_entries c trace replies workers block worker i ++ t) (by (i / block % workers == worker) (is_full reply) refl silent)
+    ∙ append-nil (dealt_entries c trace replies workers block worker i)
   where
-    by : (own full : Bool) → is_full reply ≡ full → false ≡ (own && not full) → filter_map (entry_at c trace replies) (if own then i ∷ [] else []) ≡ []
+    by : (own full : Bool) → is_full reply ≡ full → false ≡ (own && not full) → filter_map (entry_of_line c trace replies) (if own then i ∷ [] else []) ≡ []
     by false full f e = refl
-    by true true f e = let none : entry_at c trace replies i ≡ None = at-line c trace replies i v reply a b ∙ full-silent c v reply f in rw none refl
+    by true true f e = let none : entry_of_line c trace replies i ≡ None = at-line c trace replies i v reply a b ∙ full-silent c v reply f in rw none refl
     by true false f e = cc e
 
 -- a caller of no entry has no calls, and the caller of an entry has some
@@ -163,18 +168,18 @@ and-iff false g P Q R here next whole = (λ t. cc t, λ r. here.1 (whole.1 r).0)
 -- a walk over the lines that compares the entries with the caller's calls: one line more, which tells of an entry
 pub walk-more : (c : ℕ) (trace : List Vector) (replies : List Reply) (workers block worker i : ℕ) (v : Vector) (reply : Reply) (mine_all : List Entry) (n : ℕ) (fine one : Bool)
     → slice_get trace i ≡ Some v → slice_get replies i ≡ Some reply → true ≡ ((i / block % workers == worker) && not (is_full reply))
-    → (IsTrue fine ↔ (take n mine_all ≡ worker_told c trace replies workers block worker i)) → n ≡ length (worker_told c trace replies workers block worker i)
+    → (IsTrue fine ↔ (take n mine_all ≡ dealt_entries c trace replies workers block worker i)) → n ≡ length (dealt_entries c trace replies workers block worker i)
     → (IsTrue one ↔ (slice_get mine_all n ≡ entry_of c v reply))
-    → (IsTrue (fine && one) ↔ (take (n + 1) mine_all ≡ worker_told c trace replies workers block worker (i + 1))) × (n + 1 ≡ length (worker_told c trace replies workers block worker (i + 1)))
+    → (IsTrue (fine && one) ↔ (take (n + 1) mine_all ≡ dealt_entries c trace replies workers block worker (i + 1))) × (n + 1 ≡ length (dealt_entries c trace replies workers block worker (i + 1)))
 walk-more c trace replies workers block worker i v reply mine_all n fine one a b tells same count next =
     let heard : is_full reply ≡ false = not-full (is_full reply) (both (i / block % workers == worker) (not (is_full reply)) tells).1 in
     let entry = told-entry c v reply heard in
-    let longer = told-more c trace replies workers block worker i v reply entry.0 a b tells entry.1 in
-    let begins = begins-more mine_all (worker_told c trace replies workers block worker i) n entry.0 count in (
-      and-iff fine one (take n mine_all ≡ worker_told c trace replies workers block worker i) (slice_get mine_all n ≡ entry_of c v reply)
-          (take (n + 1) mine_all ≡ worker_told c trace replies workers block worker (i + 1)) same next
+    let longer = entries-more c trace replies workers block worker i v reply entry.0 a b tells entry.1 in
+    let begins = begins-more mine_all (dealt_entries c trace replies workers block worker i) n entry.0 count in (
+      and-iff fine one (take n mine_all ≡ dealt_entries c trace replies workers block worker i) (slice_get mine_all n ≡ entry_of c v reply)
+          (take (n + 1) mine_all ≡ dealt_entries c trace replies workers block worker (i + 1)) same next
           (λ h. begins.0 (h.0, h.1 ∙ entry.1) ∙ sym longer, λ h. let there = begins.1 (h ∙ longer) in (there.0, there.1 ∙ sym entry.1)),
-      (let one_more = ap length longer in omega (arith, one_more, count, length-append (worker_told c trace replies workers block worker i) (entry.0 ∷ []))),
+      (let one_more = ap length longer in omega (arith, one_more, count, length-append (dealt_entries c trace replies workers block worker i) (entry.0 ∷ []))),
     )
   where
     not-full : (full : Bool) → not full ≡ true → full ≡ false

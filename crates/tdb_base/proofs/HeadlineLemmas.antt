@@ -4,7 +4,7 @@ use Rattle.std.proofs.lemmas.List.Sums.{sum_by-cons}
 use Rattle.std.proofs.lemmas.Option.{slice_get_within}
 use Rattle.std.specs.Prelude.{◌&&◌, ◌||◌, ◌==◌, map, slice_get, count_by, sum_by, option_and_then}
 use Rattle.std.specs.List.{list_any, range_with_len, zip}
-use Rattle.tdb_base.specs.Agrees.{Agrees, AgreesAmongOthers, entry_at, entry_of}
+use Rattle.tdb_base.specs.Agrees.{Agrees, AgreesAmongOthers, AgreesOver, AgreesOverAmongOthers, entry_of, entry_of_line}
 use Rattle.tdb_base.specs.Headline.{CountsDistinct, CountsNames, DifferentLinesDifferentIds, EachNewOnce, EqualLinesEqualIds, id_at}
 use Rattle.tdb_base.specs.History.{Vector, Put, Entry, History, calls, name_of, same}
 use Rattle.tdb_base.specs.Legal.{PutsOnly}
@@ -12,6 +12,7 @@ use Rattle.tdb_base.specs.Lines.{mine, distinct}
 use Rattle.tdb_base.specs.Replies.{id_of, is_full, is_new}
 use Rattle.tdb_base.specs.declared.reply.Reply.{Reply}
 use Rattle.tdb_base.specs.declared.reply.Reply.TheVariants as r
+use Rattle.tdb_base.proofs.AgreesLemmas.{insertion-entries}
 use Rattle.tdb_base.proofs.DistinctLemmas.{count-filter, count-named, count-same, distinct-sum}
 use Rattle.tdb_base.proofs.ListLemmas.{At, at-contained, at-filter, at-filter_map, at-range, at-within, cut-at, filter-at}
 use Rattle.tdb_base.proofs.NameLemmas.{any-flags, entry-named, gives-once, names-differ}
@@ -44,9 +45,10 @@ line-named count trace replies workers block earlier h callers agrees some i v r
     let numbered : slice_get (range_with_len 0 (length trace)) i ≡ Some i = at-range 0 (length trace) i within ∙ ap Some (omega arith) in
     let own : (worker == worker) ≡ true = grind arith in
     let mine-at = at-filter (λ (k : ℕ). k / block % workers == worker) (range_with_len 0 (length trace)) i i numbered own in
-    let told : entry_at caller.0 trace replies i ≡ Some entry.entry = rw (at, reply-at) entry.told in
-    let listed = at-filter_map (entry_at caller.0 trace replies) (mine (length trace) workers block worker) i entry.entry mine-at.0 mine-at.1 told in
-    let called : slice_get (calls h caller.0) listed.0 ≡ Some entry.entry = ap (λ (t : History). slice_get t listed.0) (agrees.in_order worker caller.0 caller.1) ∙ listed.1 in
+    let told : entry_of_line caller.0 trace replies i ≡ Some entry.entry = rw (at, reply-at) entry.told in
+    let listed = at-filter_map (entry_of_line caller.0 trace replies) (mine (length trace) workers block worker) i entry.entry mine-at.0 mine-at.1 told in
+    let called : slice_get (calls h caller.0) listed.0 ≡ Some entry.entry = ap (λ (t : History). slice_get t listed.0)
+    (agrees.in_order worker caller.0 caller.1 ∙ insertion-entries caller.0 trace replies (mine (length trace) workers block worker)) ∙ listed.1 in
     let place = (filter-at (λ (e : Entry). e.caller == caller.0) h entry.entry listed.0 called).0 in
     let cut = cut-at h entry.entry place.0 place.1 in
     let name = entry-named count h cut.before cut.after entry.entry agrees.legal cut.whole in
@@ -176,22 +178,22 @@ counts-distinct count trace replies workers block h callers agrees some none =
     ∙ ap (λ (t : List Vector). length (distinct t)) (zip-firsts trace replies agrees.among.one_each)
 
 -- where no flag is set, cleared or read, replies agree whatever the number of flags is
-among-any-flags : (some other : ℕ) (trace : List Vector) (replies : List Reply) (workers block : ℕ) (earlier later : History) (callers : List ℕ) → PutsOnly later
-    → AgreesAmongOthers some trace replies workers block earlier later callers → AgreesAmongOthers other trace replies workers block earlier later callers
-among-any-flags some other trace replies workers block earlier later callers puts agrees = record {
-  one_each = agrees.one_each;
-  legal = any-flags some other later puts agrees.legal;
-  extends = agrees.extends;
-  callers_count = agrees.callers_count;
-  callers_differ = agrees.callers_differ;
-  callers_new = agrees.callers_new;
-  in_order = agrees.in_order;
-  full = agrees.full;
-}
+module _ (some other : ℕ) (lines_of : ℕ → List ℕ) (line_entries : ℕ → ℕ → History)
+    (trace : List Vector) (replies : List Reply) (workers : ℕ)
+    (earlier later : History) (callers : List ℕ) (puts : PutsOnly later) where
+  among-any-flags : AgreesOverAmongOthers some lines_of line_entries trace replies workers earlier later callers
+      → AgreesOverAmongOthers other lines_of line_entries trace replies workers earlier later callers
+  among-any-flags agrees = record {
+    one_each = agrees.one_each;
+    legal = any-flags some other later puts agrees.legal;
+    extends = agrees.extends;
+    callers_count = agrees.callers_count;
+    callers_differ = agrees.callers_differ;
+    callers_new = agrees.callers_new;
+    in_order = agrees.in_order;
+    full = agrees.full;
+  }
 
-pub agrees-any-flags : (some other : ℕ) (trace : List Vector) (replies : List Reply) (workers block : ℕ) (earlier later : History) (callers : List ℕ) → PutsOnly later
-    → Agrees some trace replies workers block earlier later callers → Agrees other trace replies workers block earlier later callers
-agrees-any-flags some other trace replies workers block earlier later callers puts agrees = record {
-  among = among-any-flags some other trace replies workers block earlier later callers puts agrees.among;
-  no_others = agrees.no_others;
-}
+  pub agrees-any-flags : AgreesOver some lines_of line_entries trace replies workers earlier later callers
+      → AgreesOver other lines_of line_entries trace replies workers earlier later callers
+  agrees-any-flags agrees = record { among = among-any-flags agrees.among; no_others = agrees.no_others }

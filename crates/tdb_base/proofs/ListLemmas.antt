@@ -1,7 +1,7 @@
 -- The elements of a list by their places, and the lists that filters make.
 use Rattle.std.proofs.Common.{◌⊎◌, inl, inr, ◌≡◌, ◌<◌, ◌+◌, ℕ, zero, suc, List, [], ◌∷◌, ◌++◌, length, Option, Some, None, Bool, true, false, cond, refl, sym, ap, subst, arith, ◌∙◌}
 use Rattle.std.proofs.lemmas.Option.{slice_get-get_or}
-use Rattle.std.specs.Prelude.{Contains, filter, nat_lt, slice_get}
+use Rattle.std.specs.Prelude.{Contains, filter, flat_map, nat_lt, option_to_list, slice_get}
 use Rattle.std.specs.List.{filter_map, cons_option, range_with_len}
 
 -- some place of the list holds this element
@@ -72,6 +72,16 @@ at-filter_map f (z ∷ xs) x y (suc k) e t = by (f z) (at-filter_map f xs x y k 
     by : (o : Option _) → At (filter_map f xs) y → At (cons_option o (filter_map f xs)) y
     by None h = h
     by (Some w) h = at-next w (filter_map f xs) y h
+
+-- lists of at most one element, one after the other
+pub flat_map-options : {A B : Type 0} (f : A → Option B) (xs : List A) → flat_map (λ x. option_to_list (f x)) xs ≡ filter_map f xs
+flat_map-options f [] = refl
+flat_map-options f (x ∷ xs) = by (f x) (flat_map-options f xs)
+  where
+    by : (o : Option _) → flat_map (λ x. option_to_list (f x)) xs ≡ filter_map f xs
+        → option_to_list o ++ flat_map (λ x. option_to_list (f x)) xs ≡ cons_option o (filter_map f xs)
+    by None rest = rest
+    by (Some y) rest = ap (λ (t : List _). y ∷ t) rest
 
 pub at-range : (from n k : ℕ) → k < n → slice_get (range_with_len from n) k ≡ Some (from + k)
 at-range from zero k h = absurd (omega arith)

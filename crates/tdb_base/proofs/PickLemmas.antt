@@ -3,7 +3,7 @@ use Rattle.std.proofs.Common.{◌≡◌, ◌<◌, ◌≤◌, ◌+◌, ◌∙◌,
 use Rattle.std.proofs.lemmas.List.Elements.{All-cons, All-filter, All-head, All-nil, All-tail, filter_map-append}
 use Rattle.std.specs.Prelude.{◌==◌, ◌/◌, ◌%◌, All, slice_get}
 use Rattle.std.specs.List.{cons_option, filter_map, range_with_len, zip}
-use Rattle.tdb_base.specs.Agrees.{entry_at, entry_of, told}
+use Rattle.tdb_base.specs.Agrees.{entry_of_line, entry_of, entries_of}
 use Rattle.tdb_base.specs.History.{Vector, Entry}
 use Rattle.tdb_base.specs.Lines.{mine, picked}
 use Rattle.tdb_base.specs.declared.reply.Reply.{Reply}
@@ -40,9 +40,9 @@ mine_below lines workers block worker =
         All-cons (λ (k : ℕ). k < lines) from (range_with_len (from + 1) count) (omega arith) (range-below (from + 1) count (omega arith))
 
 -- one vector and its reply more
-pub told_push : (caller : ℕ) (vectors : List Vector) (replies : List Reply) (v : Vector) (reply : Reply) → length replies ≡ length vectors
-    → told caller (vectors ++ v ∷ []) (replies ++ reply ∷ []) ≡ told caller vectors replies ++ cons_option (entry_of caller v reply) []
-told_push caller vectors replies v reply same =
+pub entries_push : (caller : ℕ) (vectors : List Vector) (replies : List Reply) (v : Vector) (reply : Reply) → length replies ≡ length vectors
+    → entries_of caller (vectors ++ v ∷ []) (replies ++ reply ∷ []) ≡ entries_of caller vectors replies ++ cons_option (entry_of caller v reply) []
+entries_push caller vectors replies v reply same =
     ap (filter_map entry) (zip-push vectors replies v reply same) ∙ filter_map-append entry (zip vectors replies) ((v, reply) ∷ [])
   where
     entry : Vector × Reply → Option Entry
@@ -55,10 +55,10 @@ told_push caller vectors replies v reply same =
     zip-push (a ∷ xs) (b ∷ ys) x y same = ap (λ (t : List _). (a, b) ∷ t) (zip-push xs ys x y (omega arith))
 
 -- the entries that the replies at some places tell of are those of the vectors and replies picked there
-pub told_picked : (caller : ℕ) (trace : List Vector) (replies : List Reply) (places : List ℕ) → length replies ≡ length trace → All (λ k. k < length trace) places
-    → filter_map (entry_at caller trace replies) places ≡ told caller (picked trace places) (picked replies places)
-told_picked caller trace replies [] same within = refl
-told_picked caller trace replies (k ∷ places) same within =
+pub entries_picked : (caller : ℕ) (trace : List Vector) (replies : List Reply) (places : List ℕ) → length replies ≡ length trace → All (λ k. k < length trace) places
+    → filter_map (entry_of_line caller trace replies) places ≡ entries_of caller (picked trace places) (picked replies places)
+entries_picked caller trace replies [] same within = refl
+entries_picked caller trace replies (k ∷ places) same within =
     let line = picked-both trace replies k same (All-head (λ (k : ℕ). k < length trace) k places within) in
-    let rest = told_picked caller trace replies places same (All-tail (λ (k : ℕ). k < length trace) k places within) in
+    let rest = entries_picked caller trace replies places same (All-tail (λ (k : ℕ). k < length trace) k places within) in
     rw (line.2, line.3) (ap (cons_option (entry_of caller line.0 line.1)) rest)

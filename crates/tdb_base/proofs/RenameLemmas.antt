@@ -1,12 +1,12 @@
 -- Other numbers for the callers of a history change no name, no flag and nothing that is legal; where the callers stay apart, what agreed agrees.
 use Rattle.std.proofs.Common.{◌≡◌, ◌<◌, ◌+◌, ◌∙◌, ℕ, zero, suc, List, [], ◌∷◌, ◌++◌, length, get_or, Option, Some, None, Bool, true, false, cond, refl, sym, ap, subst, arith}
-use Rattle.std.proofs.lemmas.List.{length-map}
+use Rattle.std.proofs.lemmas.List.{length-map, map-append}
 use Rattle.std.proofs.lemmas.List.Folds.{fold-map}
 use Rattle.std.proofs.lemmas.List.Sums.{position_or_len_is}
 use Rattle.std.proofs.lemmas.Option.{get_or_from_slice_get, slice_get-get_or, slice_get_within}
-use Rattle.std.specs.Prelude.{◌==◌, Contains, filter, if◌then◌else◌, map, slice_get}
+use Rattle.std.specs.Prelude.{◌==◌, Contains, filter, flat_map, if◌then◌else◌, map, option_to_list, slice_get}
 use Rattle.std.specs.List.{cons_option, filter_map, range_with_len}
-use Rattle.tdb_base.specs.Agrees.{Agrees, entry_at, entry_of_both}
+use Rattle.tdb_base.specs.Agrees.{Agrees, AgreesOver, entries_of_insertion, entry_of_both}
 use Rattle.tdb_base.specs.History.{Vector, Act, Put, Set, Clear, Look, Entry, History, calls, flags_after, flags_of, is_fresh, name_of, names, same}
 use Rattle.tdb_base.specs.Legal.{Allows, IsLegal}
 use Rattle.tdb_base.specs.Lines.{distinct, mine, named}
@@ -118,32 +118,44 @@ calls-renamed f (e ∷ h) c apart = by (f e.caller == f c) (e.caller == c) refl 
         let yes : (f e.caller == f c) ≡ true = grind arith in
         cc (yes, s)
 
--- what replies tell of, told by another caller
-entry-renamed : (f : ℕ → ℕ) (c : ℕ) (trace : List Vector) (replies : List Reply) (places : List ℕ)
-    → renamed f (filter_map (entry_at c trace replies) places) ≡ filter_map (entry_at (f c) trace replies) places
-entry-renamed f c trace replies [] = refl
-entry-renamed f c trace replies (k ∷ places) = both (slice_get trace k) (slice_get replies k) (entry-renamed f c trace replies places)
+-- a line has the same entries of every caller, but for who called
+abbrev pub RenamesAlike : (ℕ → ℕ → History) → Type 0
+RenamesAlike line_entries = (f : ℕ → ℕ) (c i : ℕ) → renamed f (line_entries c i) ≡ line_entries (f c) i
+
+-- what an insertion makes, made by another caller
+insertion-renamed : (trace : List Vector) (replies : List Reply) → RenamesAlike (entries_of_insertion trace replies)
+insertion-renamed trace replies f c i = both (slice_get trace i) (slice_get replies i)
   where
     both : (v : Option Vector) (reply : Option Reply)
-        → renamed f (filter_map (entry_at c trace replies) places) ≡ filter_map (entry_at (f c) trace replies) places
-        → renamed f (cons_option (entry_of_both c v reply) (filter_map (entry_at c trace replies) places))
-        ≡ cons_option (entry_of_both (f c) v reply) (filter_map (entry_at (f c) trace replies) places)
-    both (Some v) (Some (r.New id)) rest = ap (λ (t : History). record { caller = f c; act = Put true; vector = v; id = id } ∷ t) rest
-    both (Some v) (Some (r.Seen id)) rest = ap (λ (t : History). record { caller = f c; act = Put false; vector = v; id = id } ∷ t) rest
-    both (Some v) (Some r.FullNodes) rest = rest
-    both (Some v) (Some r.FullRoots) rest = rest
-    both (Some v) None rest = rest
-    both None (Some reply) rest = rest
-    both None None rest = rest
+        → renamed f (option_to_list (entry_of_both c v reply)) ≡ option_to_list (entry_of_both (f c) v reply)
+    both (Some v) (Some (r.New id)) = refl
+    both (Some v) (Some (r.Seen id)) = refl
+    both (Some v) (Some r.FullNodes) = refl
+    both (Some v) (Some r.FullRoots) = refl
+    both (Some v) None = refl
+    both None (Some reply) = refl
+    both None None = refl
+
+-- the entries of some lines, of another caller
+lines-renamed : (f : ℕ → ℕ) (line_entries : ℕ → ℕ → History) (c : ℕ) (places : List ℕ) → RenamesAlike line_entries
+    → renamed f (flat_map (line_entries c) places) ≡ flat_map (line_entries (f c)) places
+lines-renamed f line_entries c [] alike = refl
+lines-renamed f line_entries c (i ∷ places) alike =
+    map-append (renamed_entry f) (line_entries c i) (flat_map (line_entries c) places)
+    ∙ ap (λ (t : History). t ++ renamed f (flat_map (line_entries c) places)) (alike f c i)
+    ∙ ap (λ (t : History). line_entries (f c) i ++ t) (lines-renamed f line_entries c places alike)
 
 -- no two of these callers are given one number
 abbrev pub KeepsApart : (ℕ → ℕ) → List ℕ → Type 0
 KeepsApart f callers = (a b : ℕ) → Contains callers a → Contains callers b → f a ≡ f b → a ≡ b
 
 -- what agrees with a history from nothing agrees with it under other numbers that keep the callers apart
-pub agrees_apart : {flag_count : ℕ} {trace : List Vector} {replies : List Reply} {workers block : ℕ} {h : History} {callers : List ℕ} (f : ℕ → ℕ) → KeepsApart f callers
-    → Agrees flag_count trace replies workers block [] h callers → Agrees flag_count trace replies workers block [] (renamed f h) (map f callers)
-agrees_apart {flag_count} {trace} {replies} {workers} {block} {h} {callers} f apart agrees = record {
+pub agrees_apart : {flag_count : ℕ} {lines_of : ℕ → List ℕ} {line_entries : ℕ → ℕ → History}
+    {trace : List Vector} {replies : List Reply} {workers : ℕ} {h : History} {callers : List ℕ}
+    (f : ℕ → ℕ) → KeepsApart f callers → RenamesAlike line_entries
+    → AgreesOver flag_count lines_of line_entries trace replies workers [] h callers
+    → AgreesOver flag_count lines_of line_entries trace replies workers [] (renamed f h) (map f callers)
+agrees_apart {flag_count} {lines_of} {line_entries} {trace} {replies} {workers} {h} {callers} f apart alike agrees = record {
   among = record {
     one_each = agrees.among.one_each;
     legal = legal-renamed flag_count f h agrees.among.legal;
@@ -158,10 +170,10 @@ agrees_apart {flag_count} {trace} {replies} {workers} {block} {h} {callers} f ap
     in_order = λ j c a.
         (let old = map-at f callers c j a in
         let known = contained-at callers old.0 (j, old.1) in
-        subst (λ (x : ℕ). calls (renamed f h) x ≡ filter_map (entry_at x trace replies) (mine (length trace) workers block j)) old.2
+        subst (λ (x : ℕ). calls (renamed f h) x ≡ flat_map (line_entries x) (lines_of j)) old.2
         (calls-renamed f h old.0 (λ e at. apart e.caller old.0 (own e at) known)
         ∙ ap (renamed f) (agrees.among.in_order j old.0 old.1)
-        ∙ entry-renamed f old.0 trace replies (mine (length trace) workers block j)));
+        ∙ lines-renamed f line_entries old.0 (lines_of j) alike));
     full = λ i v reply at reply-at full. name-renamed f h v ∙ agrees.among.full i v reply at reply-at full;
   };
   no_others = λ more whole e there.
@@ -203,12 +215,16 @@ map-places f (x ∷ xs) from places =
     rw (here, rest) refl
 
 -- a run's history can be told with the workers numbered from 0
-pub agrees_renamed : {flag_count : ℕ} {trace : List Vector} {replies : List Reply} {workers block : ℕ} {h : History} {callers : List ℕ}
-    → Agrees flag_count trace replies workers block [] h callers → Agrees flag_count trace replies workers block [] (renamed (place_of callers) h) (range_with_len 0 workers)
-agrees_renamed {flag_count} {trace} {replies} {workers} {block} {h} {callers} agrees =
+pub agrees-numbered : {flag_count : ℕ} {lines_of : ℕ → List ℕ} {line_entries : ℕ → ℕ → History}
+    {trace : List Vector} {replies : List Reply} {workers : ℕ} {h : History} {callers : List ℕ}
+    → RenamesAlike line_entries → AgreesOver flag_count lines_of line_entries trace replies workers [] h callers
+    → AgreesOver flag_count lines_of line_entries trace replies workers []
+    (renamed (place_of callers) h) (range_with_len 0 workers)
+agrees-numbered {flag_count} {lines_of} {line_entries} {trace} {replies} {workers} {h} {callers} alike agrees =
     let numbers : map (place_of callers) callers ≡ range_with_len 0 workers =
     map-places (place_of callers) callers 0 (λ k c at. place k c at ∙ omega arith) ∙ ap (range_with_len 0) agrees.among.callers_count in
-    subst (λ (t : List ℕ). Agrees flag_count trace replies workers block [] (renamed (place_of callers) h) t) numbers (agrees_apart (place_of callers) apart agrees)
+    subst (λ (t : List ℕ). AgreesOver flag_count lines_of line_entries trace replies workers [] (renamed (place_of callers) h) t) numbers
+    (agrees_apart (place_of callers) apart alike agrees)
   where
     place : (k c : ℕ) → slice_get callers k ≡ Some c → place_of callers c ≡ k
     place k c at = place-at callers k c (λ i j a b. agrees.among.callers_differ i j c a b) at
@@ -220,3 +236,8 @@ agrees_renamed {flag_count} {trace} {replies} {workers} {block} {h} {callers} ag
         let one : here.0 ≡ there.0 = sym (place here.0 a here.1) ∙ same ∙ place there.0 b there.1 in
         let at : slice_get callers there.0 ≡ Some a = subst (λ (k : ℕ). slice_get callers k ≡ Some a) one here.1 in
         cc (at, there.1)
+
+pub agrees_renamed : (flag_count : ℕ) (trace : List Vector) (replies : List Reply) (workers block : ℕ) (h : History) (callers : List ℕ)
+    → Agrees flag_count trace replies workers block [] h callers
+    → Agrees flag_count trace replies workers block [] (renamed (place_of callers) h) (range_with_len 0 workers)
+agrees_renamed flag_count trace replies workers block h callers agrees = agrees-numbered (insertion-renamed trace replies) agrees

@@ -3,11 +3,12 @@ use Rattle.std.proofs.Common.{◌≡◌, ◌≢◌, ◌<◌, ◌/◌, ◌%◌, �
 use Rattle.std.proofs.lemmas.Option.{slice_get_within, get_or_from_slice_get}
 use Rattle.std.specs.Prelude.{◌==◌, Contains, slice_get, count_by, sum_by}
 use Rattle.std.specs.List.{range_with_len, zip}
-use Rattle.tdb_base.specs.Agrees.{Agrees, entry_at, entry_of, entry_of_both}
+use Rattle.tdb_base.specs.Agrees.{Agrees, entry_of_line, entry_of, entry_of_both}
 use Rattle.tdb_base.specs.History.{Vector, Entry, History, calls, is_fresh}
 use Rattle.tdb_base.specs.Lines.{mine}
 use Rattle.tdb_base.specs.declared.reply.Reply.{Reply}
 use Rattle.tdb_base.specs.declared.reply.Reply.TheVariants as r
+use Rattle.tdb_base.proofs.AgreesLemmas.{insertion-entries}
 use Rattle.tdb_base.proofs.DistinctLemmas.{count-cons}
 use Rattle.tdb_base.proofs.ListLemmas.{At, at-contained}
 use Rattle.tdb_base.proofs.SumLemmas.{count-range, sum-by-classes, sum-filter_map, sum-places, sum-same, weight_of}
@@ -62,10 +63,10 @@ any-caller w c v r.FullRoots = refl
 
 -- what the line with a number weighs
 abbrev pub place_weight : (Vector → Bool → ℕ) → List Vector → List Reply → ℕ → ℕ
-place_weight w trace replies i = weight_of (entry_weight w) (entry_at 0 trace replies i)
+place_weight w trace replies i = weight_of (entry_weight w) (entry_of_line 0 trace replies i)
 
 any-caller-at : (w : Vector → Bool → ℕ) (c : ℕ) (trace : List Vector) (replies : List Reply) (i : ℕ)
-    → weight_of (entry_weight w) (entry_at c trace replies i) ≡ place_weight w trace replies i
+    → weight_of (entry_weight w) (entry_of_line c trace replies i) ≡ place_weight w trace replies i
 any-caller-at w c trace replies i = by (slice_get trace i) (slice_get replies i)
   where
     by : (v : Option Vector) (reply : Option Reply) → weight_of (entry_weight w) (entry_of_both c v reply) ≡ weight_of (entry_weight w) (entry_of_both 0 v reply)
@@ -91,9 +92,10 @@ tally count trace replies workers block h callers w agrees some =
     (λ e at. let known = at-contained callers e.caller (agrees.no_others h refl e (contained-at h e at)) in
     count-single callers e.caller known.0 (λ i j a b. agrees.among.callers_differ i j e.caller a b) known.1) in
     let worker : (j c : ℕ) → slice_get callers j ≡ Some c → sum_by (entry_weight w) (calls h c) ≡ sum_by place (mine_of j) =
-    λ j c at. ap (λ (t : History). sum_by (entry_weight w) t) (agrees.among.in_order j c at)
-    ∙ sum-filter_map (entry_weight w) (entry_at c trace replies) (mine_of j)
-    ∙ sum-same (λ (i : ℕ). weight_of (entry_weight w) (entry_at c trace replies i)) place (mine_of j) (λ i k. any-caller-at w c trace replies i) in
+    λ j c at. ap (λ (t : History). sum_by (entry_weight w) t)
+    (agrees.among.in_order j c at ∙ insertion-entries c trace replies (mine_of j))
+    ∙ sum-filter_map (entry_weight w) (entry_of_line c trace replies) (mine_of j)
+    ∙ sum-same (λ (i : ℕ). weight_of (entry_weight w) (entry_of_line c trace replies i)) place (mine_of j) (λ i k. any-caller-at w c trace replies i) in
     let by-worker : sum_by (λ c. sum_by (entry_weight w) (calls h c)) callers ≡ sum_by (λ j. sum_by place (mine_of j)) (range_with_len 0 (length callers)) =
     sum-places (λ (c : ℕ). sum_by (entry_weight w) (calls h c)) (λ (j : ℕ). sum_by place (mine_of j)) 0 callers
     (λ k c at. worker k c at ∙ ap (λ (j : ℕ). sum_by place (mine_of j)) (omega arith)) in

@@ -2,7 +2,7 @@
 
 ghost use Rattle.std.specs.Prelude.{◌≡◌, ◌<◌, Some, ℕ, List, []};
 ghost use Rattle.std.specs.List.{range_with_len};
-ghost use Rattle.tdb_base.specs.Agrees.{Agrees, AgreesAmongOthers};
+ghost use Rattle.tdb_base.specs.Agrees.{Agrees, AgreesAmongOthers, AgreesOver};
 ghost use Rattle.tdb_base.specs.Headline.{EqualLinesEqualIds, DifferentLinesDifferentIds, CountsNames, EachNewOnce, CountsDistinct};
 ghost use Rattle.tdb_base.specs.History.{Vector, History, flags_of, name_of};
 ghost use Rattle.tdb_base.specs.Legal.{IsLegal, IsNamedIn, KeepsNames, PutsOnly};
@@ -15,11 +15,14 @@ pub fn names_are_kept()
     ensures { (flag_count : ℕ) (h : History) → KeepsNames flag_count h }
 {}
 
-/// A history that only puts vectors is legal with any number of flags, or with none, and what agrees with it does so with any number.
+/// A history that only puts vectors is legal with any number of flags, or with none, and what agrees with it does so
+/// with any number, whichever lines each worker has and whichever entries a line has.
 pub fn puts_need_no_flags()
     ensures legal { (some other : ℕ) (h : History) → PutsOnly h → IsLegal some h → IsLegal other h }
-    ensures agrees { (some other : ℕ) (trace : List Vector) (replies : List Reply) (workers block : ℕ) (earlier later : History) (callers : List ℕ) → PutsOnly later
-        → Agrees some trace replies workers block earlier later callers → Agrees other trace replies workers block earlier later callers }
+    ensures agrees { (some other : ℕ) (lines_of : ℕ → List ℕ) (line_entries : ℕ → ℕ → History) (trace : List Vector) (replies : List Reply) (workers : ℕ)
+            (earlier later : History) (callers : List ℕ) → PutsOnly later
+        → AgreesOver some lines_of line_entries trace replies workers earlier later callers
+        → AgreesOver other lines_of line_entries trace replies workers earlier later callers }
 {}
 
 /// In a legal history a vector's name is the one that an entry gave it.

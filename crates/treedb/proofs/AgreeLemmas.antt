@@ -7,13 +7,14 @@ use Rattle.std.proofs.lemmas.Option.{get_or_from_slice_get, slice_get_within}
 use Rattle.std.specs.Ordering.{is_eq, nat_cmp}
 use Rattle.std.specs.Prelude.{◌==◌, ◌||◌, All, take, cond, not, Contains, filter, slice_get, is_some, if◌then◌else◌}
 use Rattle.std.specs.List.{cons_option, filter_map, list_any, range_with_len}
-use Rattle.tdb_base.specs.Agrees.{entry_at, entry_of, entry_of_both}
+use Rattle.tdb_base.specs.Agrees.{entry_of, entry_of_both, entry_of_line}
 use Rattle.tdb_base.specs.History.{Vector, Act, Put, Entry, History, calls, name_of, names}
 use Rattle.tdb_base.specs.Legal.{Allows, IsLegal}
 use Rattle.tdb_base.specs.Lines.{mine}
 use Rattle.tdb_base.specs.Replies.{is_full}
 use Rattle.tdb_base.specs.declared.reply.Reply.{Reply}
 use Rattle.tdb_base.specs.declared.reply.Reply.TheVariants as r
+use Rattle.tdb_base.proofs.AgreesLemmas.{insertion-entries}
 use Rattle.tdb_base.proofs.HeadlineLemmas.{none-full}
 use Rattle.tdb_base.proofs.ListLemmas.{At, at-contained}
 use Rattle.tdb_base.proofs.NameLemmas.{entry-named, legal-nil, legal-push, name-nil, name-push, names-this}
@@ -203,7 +204,7 @@ module _ (width flags : ℕ) where
         callers_count = refl;
         callers_differ = λ j k c a b. (let first = only j c a in let second = only k c b in first.0 ∙ sym second.0);
         callers_new = λ c there. refl;
-        in_order = λ j c a. in-order j c (only j c a);
+        in_order = λ j c a. in-order j c (only j c a) ∙ sym (insertion-entries c lines replies (mine (length lines) 1 block j));
         full = λ i v reply at reply-at full. cc (none-full replies i reply done.never_full reply-at, full);
       };
       no_others = λ more whole e there.
@@ -222,10 +223,10 @@ module _ (width flags : ℕ) where
       all-mine : mine (length lines) 1 block 0 ≡ range_with_len 0 (length lines)
       all-mine = filter-all (λ (i : ℕ). i / block % 1 == 0) (range_with_len 0 (length lines)) (λ i. grind arith)
 
-      in-order : (j c : ℕ) → (j ≡ 0) × (c ≡ 0) → calls (entries lines replies) c ≡ filter_map (entry_at c lines replies) (mine (length lines) 1 block j)
+      in-order : (j c : ℕ) → (j ≡ 0) × (c ≡ 0) → calls (entries lines replies) c ≡ filter_map (entry_of_line c lines replies) (mine (length lines) 1 block j)
       in-order j c both =
-          rw (both.0, both.1) (calls-all lines replies ∙ sym (ap (filter_map (entry_at 0 lines replies)) all-mine
-          ∙ entries-numbered lines replies 0 (entry_at 0 lines replies) done.count (λ k. ap (entry_at 0 lines replies) (omega arith))))
+          rw (both.0, both.1) (calls-all lines replies ∙ sym (ap (filter_map (entry_of_line 0 lines replies)) all-mine
+          ∙ entries-numbered lines replies 0 (entry_of_line 0 lines replies) done.count (λ k. ap (entry_of_line 0 lines replies) (omega arith))))
 
   -- the line at a place of a trace of pairs
   pub pair-at : (trace : List Vector) (i : ℕ) (v : Vector) → All (IsPair width) trace → slice_get trace i ≡ Some v → IsPair width v

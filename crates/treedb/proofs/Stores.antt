@@ -86,7 +86,7 @@ module _ (c : Choice) (trace : List Vector) (replies : List Reply) (store : Stor
       (subst (λ (h : History). Agrees store.about.flags trace replies c.workers c.block h (view last).seen one.0) none_seen (one.1.alone begins))
 
   pub agrees_run : Agrees (flag_count c.profile) trace replies c.workers c.block [] history (range_with_len 0 c.workers)
-  agrees_run = agrees_renamed own_agrees
+  agrees_run = agrees_renamed (flag_count c.profile) trace replies c.workers c.block (view last).seen one.0 own_agrees
 
   filled_run : AreOfVectors store.about (view last).known trace
   filled_run index pair h = ⊎_elim

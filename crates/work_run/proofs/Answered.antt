@@ -3,13 +3,13 @@ use Rattle.std.proofs.Common.{◌≡◌, ◌⊎◌, ℕ, zero, suc, ◌+◌, ◌
 use Rattle.std.specs.Prelude.{slice_get}
 use Rattle.tree_shape.specs.Tree.{Has, IsPart}
 use Rattle.tree_shape.proofs.Trees.{stands_more}
-use Rattle.tdb_base.specs.Agrees.{told}
+use Rattle.tdb_base.specs.Agrees.{entries_of}
 use Rattle.tdb_base.specs.History.{Vector, History, calls}
 use Rattle.tdb_base.specs.Legal.{Extends}
 use Rattle.tdb_base.specs.Replies.{is_full}
 use Rattle.tdb_base.specs.declared.reply.Reply.{Reply}
 use Rattle.tdb_base.specs.declared.reply.Reply.TheVariants as r
-use Rattle.tdb_base.proofs.PickLemmas.{told_push}
+use Rattle.tdb_base.proofs.PickLemmas.{entries_push}
 use Rattle.pair_rule.specs.declared.sizes.About.{About}
 use Rattle.pair_rule.specs.declared.pass.PassOf.{PassOf}
 use Rattle.pair_rule.specs.View.{face}
@@ -80,7 +80,7 @@ module _ {T : Type 0} (part : Part T) (store : Store) (v : Vector) (p q : PassOf
       (has_either i g.more (view p).made (subst (λ (x : List ℕ). Has i x) g.made h))
 
   -- a call that is one entry of the history
-  named_one : (fresh : Bool) (id : ℕ) (reply : Reply) → told (view p).number (v ∷ []) (reply ∷ []) ≡ call (view p).number fresh v id ∷ [] → is_full reply ≡ false → Barred part store.about (view q).known (root_pairs part (view q)) v reply
+  named_one : (fresh : Bool) (id : ℕ) (reply : Reply) → entries_of (view p).number (v ∷ []) (reply ∷ []) ≡ call (view p).number fresh v id ∷ [] → is_full reply ≡ false → Barred part store.about (view q).known (root_pairs part (view q)) v reply
       → AtRest part store p → AtRest part store q → Advanced part (call (view p).number fresh v id ∷ []) (view p) (view q) → last_vector q ≡ Some v
       → Gained store.about v (puts_after store.about (last_vector p) v) (view p) (view q) → (view q).probes ≡ (view p).probes + puts_after store.about (last_vector p) v
       → Inserted part store (v ∷ []) (reply ∷ []) p q
@@ -100,7 +100,7 @@ module _ {T : Type 0} (part : Part T) (store : Store) (v : Vector) (p q : PassOf
   }
 
   -- a call for which there was no place
-  full_one : (most : ℕ) (reply : Reply) → is_full reply ≡ true → told (view p).number (v ∷ []) (reply ∷ []) ≡ [] → AtRest part store p → AtRest part store q
+  full_one : (most : ℕ) (reply : Reply) → is_full reply ≡ true → entries_of (view p).number (v ∷ []) (reply ∷ []) ≡ [] → AtRest part store p → AtRest part store q
       → face (view q) ≡ face (view p) → Extends (view p).seen (view q).seen → IsPart (view p).known (view q).known → IsPart (root_pairs part (view p)) (root_pairs part (view q))
       → calls (view q).seen (view p).number ≡ calls (view p).seen (view p).number ++ []
       → Gained store.about v most (view p) (view q) → (view q).probes ≤ (view p).probes + puts_after store.about (last_vector p) v
@@ -143,9 +143,9 @@ module _ {T : Type 0} (part : Part T) (store : Store) (v : Vector) (p q : PassOf
 -- ---- several lines
 
 -- what the replies tell of, when a line is added
-told_more : (n : ℕ) (vectors : List Vector) (replies : List Reply) (v : Vector) (reply : Reply) → length replies ≡ length vectors
-    → told n (vectors ++ v ∷ []) (replies ++ reply ∷ []) ≡ told n vectors replies ++ told n (v ∷ []) (reply ∷ [])
-told_more n vectors replies v reply same = told_push n vectors replies v reply same
+entries_more : (n : ℕ) (vectors : List Vector) (replies : List Reply) (v : Vector) (reply : Reply) → length replies ≡ length vectors
+    → entries_of n (vectors ++ v ∷ []) (replies ++ reply ∷ []) ≡ entries_of n vectors replies ++ entries_of n (v ∷ []) (reply ∷ [])
+entries_more n vectors replies v reply same = entries_push n vectors replies v reply same
 
 last_more : (last : Option Vector) (vectors : List Vector) (replies : List Reply) (v : Vector) (reply : Reply) → length replies ≡ length vectors
     → last_of last (vectors ++ v ∷ []) (replies ++ reply ∷ []) ≡ last_after (last_of last vectors replies) v reply
@@ -214,10 +214,10 @@ module _ {T : Type 0} (part : Part T) (refusals : Refusals part) (store : Store)
         seen = extends_trans (view p).seen (view q).seen (view w).seen a.seen b.seen;
         known = λ i x h. b.known i x (a.known i x h);
         roots = λ i x h. b.roots i x (a.roots i x h);
-        own = subst (λ (m : ℕ). calls (view w).seen m ≡ calls (view q).seen m ++ told m (v ∷ []) (reply ∷ [])) same b.own
-            ∙ (ap (λ (h : History). h ++ told n (v ∷ []) (reply ∷ [])) a.own
-            ∙ (append_assoc (calls (view p).seen n) (told n vectors replies) (told n (v ∷ []) (reply ∷ []))
-            ∙ ap (λ (h : History). calls (view p).seen n ++ h) (sym (told_more n vectors replies v reply a.one_each))));
+        own = subst (λ (m : ℕ). calls (view w).seen m ≡ calls (view q).seen m ++ entries_of m (v ∷ []) (reply ∷ [])) same b.own
+            ∙ (ap (λ (h : History). h ++ entries_of n (v ∷ []) (reply ∷ [])) a.own
+            ∙ (append_assoc (calls (view p).seen n) (entries_of n vectors replies) (entries_of n (v ∷ []) (reply ∷ []))
+            ∙ ap (λ (h : History). calls (view p).seen n ++ h) (sym (entries_more n vectors replies v reply a.one_each))));
         never = λ i u s x y full. of_never i u s full (at_push vectors replies v reply a.one_each i u s x y);
         barred = λ i u s x y. of_barred i u s (at_push vectors replies v reply a.one_each i u s x y);
         made = λ i h. ⊎_elim

@@ -8,14 +8,14 @@ use Rattle.std.proofs.lemmas.List.{get_or-map, length-map, nil_from_length}
 use Rattle.std.proofs.lemmas.List.Sums.{sum_by-cons}
 use Rattle.std.proofs.lemmas.Option.{slice_get_within}
 use Rattle.tree_shape.specs.Tree.{Has, IsPart}
-use Rattle.tdb_base.specs.Agrees.{AgreesAmongOthers, entry_at, told}
+use Rattle.tdb_base.specs.Agrees.{AgreesAmongOthers, entries_of, entry_of_line}
 use Rattle.tdb_base.specs.History.{Vector, Entry, History, calls}
 use Rattle.tdb_base.specs.Legal.{IsLegal, Extends}
 use Rattle.tdb_base.specs.Lines.{mine, picked}
 use Rattle.tdb_base.specs.declared.reply.Reply.{Reply}
-use Rattle.tdb_base.proofs.AgreesLemmas.{calls-some}
+use Rattle.tdb_base.proofs.AgreesLemmas.{calls-some, insertion-entries}
 use Rattle.tdb_base.proofs.ListLemmas.{at-contained}
-use Rattle.tdb_base.proofs.PickLemmas.{mine_below, picked_length, told_picked}
+use Rattle.tdb_base.proofs.PickLemmas.{entries_picked, mine_below, picked_length}
 use Rattle.tdb_base.proofs.TallyLemmas.{contained-at}
 use Rattle.pair_rule.specs.declared.view.View.{View}
 use Rattle.pair_rule.specs.declared.sizes.About.{About}
@@ -192,16 +192,16 @@ module _ {T : Type 0} (part : Part T) (refusals : Refusals part) (store : Store)
       (λ j lt. (view (mate j lt).pass, has_view j lt, has_own j lt)))
 
   -- the calls of a worker
-  calls_of : (j : ℕ) (lt : j < workers) → calls (view new).seen (given v0 j) ≡ filter_map (entry_at (given v0 j) trace replies) (lines_of j)
+  calls_of : (j : ℕ) (lt : j < workers) → calls (view new).seen (given v0 j) ≡ filter_map (entry_of_line (given v0 j) trace replies) (lines_of j)
   calls_of j lt =
       let m = mate j lt in
       let n = given v0 j in
       let start : (view m.start).number ≡ n = ap (λ (u : View T). u.number) m.start_is in
-      let own = subst (λ (x : ℕ). calls (view m.pass).seen x ≡ calls (view m.start).seen x ++ told x (picked trace (lines_of j)) (picked replies (lines_of j))) start m.inserted.own in
+      let own = subst (λ (x : ℕ). calls (view m.pass).seen x ≡ calls (view m.start).seen x ++ entries_of x (picked trace (lines_of j)) (picked replies (lines_of j))) start m.inserted.own in
       let none : calls (view m.start).seen n ≡ [] = ap (λ (u : View T). calls u.seen n) m.start_is ∙ (ap (λ (h : History). calls h n) (lefts_stay j v0).seen ∙ m.fresh) in
       (taken_of j lt).calls n (has_own j lt)
-      ∙ (own ∙ (ap (λ (h : History). h ++ told n (picked trace (lines_of j)) (picked replies (lines_of j))) none
-      ∙ sym (told_picked n trace replies (lines_of j) one_each (mine_below (length trace) workers block j))))
+      ∙ (own ∙ (ap (λ (h : History). h ++ entries_of n (picked trace (lines_of j)) (picked replies (lines_of j))) none
+      ∙ sym (entries_picked n trace replies (lines_of j) one_each (mine_below (length trace) workers block j))))
 
   -- the line with a number is one of its worker's, as is the reply
   record Turn (i : ℕ) (v : Vector) (reply : Reply) : Type 0 where
@@ -252,7 +252,8 @@ module _ {T : Type 0} (part : Part T) (refusals : Refusals part) (store : Store)
         ap (λ (n : ℕ). calls v0.seen n) x.1 ∙ (mate at.0 x.0).fresh);
     in_order = λ j c a.
         (let x = at_numbered (given v0) workers j c a in
-        subst (λ (n : ℕ). calls (view new).seen n ≡ filter_map (entry_at n trace replies) (lines_of j)) (sym x.1) (calls_of j x.0));
+        subst (λ (n : ℕ). calls (view new).seen n ≡ filter_map (entry_of_line n trace replies) (lines_of j)) (sym x.1) (calls_of j x.0)
+        ∙ sym (insertion-entries c trace replies (lines_of j)));
     full = λ i v reply a b full.
         (let t = turn i v reply a b in
         let m = mate t.worker t.among in

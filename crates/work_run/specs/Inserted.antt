@@ -2,7 +2,7 @@
 use Rattle.std.specs.Prelude.{◌≡◌, ◌+◌, ◌≤◌, ◌⊎◌, ℕ, true, List, [], ◌∷◌, ◌++◌, Option, Some, length}
 use Rattle.std.specs.Prelude.{slice_get, if◌then◌else◌}
 use Rattle.tree_shape.specs.Tree.{Has, IsPart}
-use Rattle.tdb_base.specs.Agrees.{told}
+use Rattle.tdb_base.specs.Agrees.{entries_of}
 use Rattle.tdb_base.specs.History.{Vector, calls}
 use Rattle.tdb_base.specs.Legal.{Extends}
 use Rattle.tdb_base.specs.Replies.{is_full}
@@ -43,7 +43,7 @@ pub record Inserted {T : Type 0} (part : Part T) (store : Store) (vectors : List
   pub seen : Extends (view old).seen (view new).seen
   pub known : IsPart (view old).known (view new).known
   pub roots : IsPart (root_pairs part (view old)) (root_pairs part (view new))
-  pub own : calls (view new).seen (view old).number ≡ calls (view old).seen (view old).number ++ told
+  pub own : calls (view new).seen (view old).number ≡ calls (view old).seen (view old).number ++ entries_of
       (view old).number vectors replies
   pub never : (i : ℕ) (v : Vector) (reply : Reply) → slice_get vectors i ≡ Some v
       → slice_get replies i ≡ Some reply → is_full reply ≡ true → NeverNamed part store new v

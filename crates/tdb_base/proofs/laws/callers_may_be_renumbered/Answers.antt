@@ -14,4 +14,4 @@ pub returns-clause-legal : goal.returns-clause-legal
 returns-clause-legal c = legal-renamed
 
 pub returns-clause-agrees : goal.returns-clause-agrees
-returns-clause-agrees c = λ flag_count trace replies workers block h callers. agrees_renamed
+returns-clause-agrees c = agrees_renamed

@@ -6,7 +6,7 @@ use Rattle.std.specs.Global.{Global}
 use Rattle.tdb_base.specs.Agrees.{entry_of}
 use Rattle.tdb_base.specs.History as h
 use Rattle.tdb_base.specs.declared.reply.Reply.TheVariants as r
-use Rattle.tdb_base.proofs.AgreesLemmas.{begins-all, nothing-there, told-same, walk-more, worker_told}
+use Rattle.tdb_base.proofs.AgreesLemmas.{begins-all, nothing-there, entries-same, walk-more, dealt_entries}
 use Rattle.tdb_base.proofs.DistinctLemmas.{at-map}
 use Rattle.tdb_base.proofs.ListLemmas.{at-within}
 use Rattle.tdb_base.proofs.plain.agrees.in_order.Goals as goal
@@ -17,7 +17,7 @@ loop-i-preserved c =
     let items = λ (v : Vec ℕ Global). v.items in
     let lines = map items c.args.trace.now in
     let mine_all = h.calls c.args.later.now c.args.caller in
-    let entries = worker_told c.args.caller lines c.args.replies.now c.args.workers c.args.block c.args.worker in
+    let entries = dealt_entries c.args.caller lines c.args.replies.now c.args.workers c.args.block c.args.worker in
     let reply = get_or c.args.replies.now c.loop-i.i (r.New 0) in
     let answered : slice_get c.args.replies.now c.loop-i.i ≡ Some reply = slice_get-get_or c.args.replies.now c.loop-i.i (r.New 0) (omega arith) in
     elim c.if-is_told.branch [
@@ -38,7 +38,7 @@ loop-i-preserved c =
       | else-is_told w ↦
           (let place = at-within c.args.trace.now c.loop-i.i c.loop-i-test.true in
           let at : slice_get lines c.loop-i.i ≡ Some place.0.items = at-map items c.args.trace.now place.0 c.loop-i.i place.1 in
-          let kept = told-same c.args.caller lines c.args.replies.now c.args.workers c.args.block c.args.worker c.loop-i.i place.0.items reply at answered (sym w.if-is_told.false ∙ c.is_told.ensures) in
+          let kept = entries-same c.args.caller lines c.args.replies.now c.args.workers c.args.block c.args.worker c.loop-i.i place.0.items reply at answered (sym w.if-is_told.false ∙ c.is_told.ensures) in
           record {
             same = subst (λ (b : Bool). IsTrue b ↔ (take c.if-is_told.number mine_all ≡ entries (c.loop-i.i + 1))) (sym w.fine-is)
                 (subst (λ (k : ℕ). IsTrue c.loop-i.fine ↔ (take k mine_all ≡ entries (c.loop-i.i + 1))) (sym w.number-is)
@@ -54,7 +54,7 @@ returns-then-fine c =
     let lines = map items c.args.trace.now in
     let mine_all = h.calls c.args.later.now c.args.caller in
     let end : c.loop-i.i ≡ length lines = omega (arith, length-map c.args.trace.now items) in
-    let entries = worker_told c.args.caller lines c.args.replies.now c.args.workers c.args.block c.args.worker in
+    let entries = dealt_entries c.args.caller lines c.args.replies.now c.args.workers c.args.block c.args.worker in
     let here : take c.loop-i.number mine_all ≡ entries (length lines) = c.loop-i.invariant.same.0 c.if-fine.true ∙ ap entries end in
     let count : c.loop-i.number ≡ length (entries (length lines)) = c.loop-i.invariant.count ∙ ap (λ (i : ℕ). length (entries i)) end in
     let all = begins-all mine_all (entries (length lines)) c.loop-i.number count in
