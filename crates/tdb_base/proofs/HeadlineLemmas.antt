@@ -4,17 +4,16 @@ use Rattle.std.proofs.lemmas.List.Sums.{sum_by-cons}
 use Rattle.std.proofs.lemmas.Option.{slice_get_within}
 use Rattle.std.specs.Prelude.{◌&&◌, ◌||◌, ◌==◌, map, slice_get, count_by, sum_by, option_and_then}
 use Rattle.std.specs.List.{list_any, range_with_len, zip}
-use Rattle.tdb_base.specs.Agrees.{Agrees, AgreesAmongOthers, AgreesOver, AgreesOverAmongOthers, entry_of, entry_of_line}
+use Rattle.tdb_base.specs.Agrees.{Agrees, AgreesAmongOthers, AgreesOver, AgreesOverAmongOthers, entries_of_insertion, entry_of}
 use Rattle.tdb_base.specs.Headline.{CountsDistinct, CountsNames, DifferentLinesDifferentIds, EachNewOnce, EqualLinesEqualIds, id_at}
 use Rattle.tdb_base.specs.History.{Vector, Put, Entry, History, calls, name_of, same}
 use Rattle.tdb_base.specs.Legal.{PutsOnly}
-use Rattle.tdb_base.specs.Lines.{mine, distinct}
+use Rattle.tdb_base.specs.Lines.{distinct}
 use Rattle.tdb_base.specs.Replies.{id_of, is_full, is_new}
 use Rattle.tdb_base.specs.declared.reply.Reply.{Reply}
 use Rattle.tdb_base.specs.declared.reply.Reply.TheVariants as r
-use Rattle.tdb_base.proofs.AgreesLemmas.{insertion-entries}
 use Rattle.tdb_base.proofs.DistinctLemmas.{count-filter, count-named, count-same, distinct-sum}
-use Rattle.tdb_base.proofs.ListLemmas.{At, at-contained, at-filter, at-filter_map, at-range, at-within, cut-at, filter-at}
+use Rattle.tdb_base.proofs.ListLemmas.{At, at-contained, at-filter, at-flat_map, at-range, at-within, cut-at, filter-at}
 use Rattle.tdb_base.proofs.NameLemmas.{any-flags, entry-named, gives-once, names-differ}
 use Rattle.tdb_base.proofs.SumLemmas.{sum-same}
 use Rattle.tdb_base.proofs.TallyLemmas.{line_weight, tally, zip-at}
@@ -32,6 +31,19 @@ tells caller v (r.Seen n) id e = record { entry = record { caller = caller; act 
 tells caller v r.FullNodes id e = cc e
 tells caller v r.FullRoots id e = cc e
 
+-- an entry of a worker's line stands in the history, so its vector has its identifier as its name
+pub line-entry-named : {count : ℕ} {lines_of : ℕ → List ℕ} {line_entries : ℕ → ℕ → History}
+    {trace : List Vector} {replies : List Reply} {workers : ℕ} {earlier h : History} {callers : List ℕ}
+    → AgreesOverAmongOthers count lines_of line_entries trace replies workers earlier h callers
+    → (j c i : ℕ) (e : Entry) → slice_get callers j ≡ Some c → At (lines_of j) i → At (line_entries c i) e
+    → name_of h e.vector ≡ Some e.id
+line-entry-named {count} {lines_of} {line_entries} {h = h} agrees j c i e caller own made =
+    let listed = at-flat_map (line_entries c) (lines_of j) i e own.0 own.1 made in
+    let called : slice_get (calls h c) listed.0 ≡ Some e = ap (λ (t : History). slice_get t listed.0) (agrees.in_order j c caller) ∙ listed.1 in
+    let place = (filter-at (λ (x : Entry). x.caller == c) h e listed.0 called).0 in
+    let cut = cut-at h e place.0 place.1 in
+    entry-named count h cut.before cut.after e agrees.legal cut.whole
+
 -- the vector of a line that was answered an identifier has it as its name
 pub line-named : (count : ℕ) (trace : List Vector) (replies : List Reply) (workers block : ℕ) (earlier h : History) (callers : List ℕ)
     → AgreesAmongOthers count trace replies workers block earlier h callers → 0 < workers
@@ -45,13 +57,8 @@ line-named count trace replies workers block earlier h callers agrees some i v r
     let numbered : slice_get (range_with_len 0 (length trace)) i ≡ Some i = at-range 0 (length trace) i within ∙ ap Some (omega arith) in
     let own : (worker == worker) ≡ true = grind arith in
     let mine-at = at-filter (λ (k : ℕ). k / block % workers == worker) (range_with_len 0 (length trace)) i i numbered own in
-    let told : entry_of_line caller.0 trace replies i ≡ Some entry.entry = rw (at, reply-at) entry.told in
-    let listed = at-filter_map (entry_of_line caller.0 trace replies) (mine (length trace) workers block worker) i entry.entry mine-at.0 mine-at.1 told in
-    let called : slice_get (calls h caller.0) listed.0 ≡ Some entry.entry = ap (λ (t : History). slice_get t listed.0)
-    (agrees.in_order worker caller.0 caller.1 ∙ insertion-entries caller.0 trace replies (mine (length trace) workers block worker)) ∙ listed.1 in
-    let place = (filter-at (λ (e : Entry). e.caller == caller.0) h entry.entry listed.0 called).0 in
-    let cut = cut-at h entry.entry place.0 place.1 in
-    let name = entry-named count h cut.before cut.after entry.entry agrees.legal cut.whole in
+    let made : At (entries_of_insertion trace replies caller.0 i) entry.entry = (zero, rw (at, reply-at, entry.told) refl) in
+    let name = line-entry-named agrees worker caller.0 i entry.entry caller.1 mine-at made in
     subst (λ (x : Vector). name_of h x ≡ Some id) entry.vector (name ∙ ap Some entry.named)
 
 -- a reply and the identifier at a place

@@ -73,6 +73,16 @@ at-filter_map f (z ∷ xs) x y (suc k) e t = by (f z) (at-filter_map f xs x y k 
     by None h = h
     by (Some w) h = at-next w (filter_map f xs) y h
 
+-- what a function gives of an element is among what it gives of all
+pub at-flat_map : {A B : Type 0} (f : A → List B) (xs : List A) (x : A) (y : B) (k : ℕ)
+    → slice_get xs k ≡ Some x → At (f x) y → At (flat_map f xs) y
+at-flat_map f [] x y k e there = cc e
+at-flat_map f (z ∷ xs) x y zero e there =
+    let same : z ≡ x = cc e in
+    let first : At (f z) y = subst (λ (w : _). At (f w) y) (sym same) there in
+    (first.0, at-left (f z) (flat_map f xs) y first.0 first.1)
+at-flat_map f (z ∷ xs) x y (suc k) e there = at-right (f z) (flat_map f xs) y (at-flat_map f xs x y k e there)
+
 -- lists of at most one element, one after the other
 pub flat_map-options : {A B : Type 0} (f : A → Option B) (xs : List A) → flat_map (λ x. option_to_list (f x)) xs ≡ filter_map f xs
 flat_map-options f [] = refl

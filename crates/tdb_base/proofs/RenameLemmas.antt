@@ -5,11 +5,11 @@ use Rattle.std.proofs.lemmas.List.Folds.{fold-map}
 use Rattle.std.proofs.lemmas.List.Sums.{position_or_len_is}
 use Rattle.std.proofs.lemmas.Option.{get_or_from_slice_get, slice_get-get_or, slice_get_within}
 use Rattle.std.specs.Prelude.{◌==◌, Contains, filter, flat_map, if◌then◌else◌, map, option_to_list, slice_get}
-use Rattle.std.specs.List.{cons_option, filter_map, range_with_len}
+use Rattle.std.specs.List.{range_with_len}
 use Rattle.tdb_base.specs.Agrees.{Agrees, AgreesOver, entries_of_insertion, entry_of_both}
 use Rattle.tdb_base.specs.History.{Vector, Act, Put, Set, Clear, Look, Entry, History, calls, flags_after, flags_of, is_fresh, name_of, names, same}
 use Rattle.tdb_base.specs.Legal.{Allows, IsLegal}
-use Rattle.tdb_base.specs.Lines.{distinct, mine, named}
+use Rattle.tdb_base.specs.Lines.{distinct, named}
 use Rattle.tdb_base.specs.Renamed.{place_of, renamed, renamed_entry}
 use Rattle.tdb_base.specs.declared.reply.Reply.{Reply}
 use Rattle.tdb_base.specs.declared.reply.Reply.TheVariants as r

@@ -15,44 +15,63 @@ pub fn names_are_kept()
     ensures { (flag_count : ℕ) (h : History) → KeepsNames flag_count h }
 {}
 
-/// A history that only puts vectors is legal with any number of flags, or with none, and what agrees with it does so
-/// with any number, whichever lines each worker has and whichever entries a line has.
+/// A history that only puts vectors is legal with any number of flags, or with none, and what agrees with
+/// it does so with any number, whichever lines each worker has and whichever entries a line has.
 pub fn puts_need_no_flags()
     ensures legal { (some other : ℕ) (h : History) → PutsOnly h → IsLegal some h → IsLegal other h }
-    ensures agrees { (some other : ℕ) (lines_of : ℕ → List ℕ) (line_entries : ℕ → ℕ → History) (trace : List Vector) (replies : List Reply) (workers : ℕ)
-            (earlier later : History) (callers : List ℕ) → PutsOnly later
+    ensures agrees { (some other : ℕ) (lines_of : ℕ → List ℕ) (line_entries : ℕ → ℕ → History)
+        (trace : List Vector) (replies : List Reply) (workers : ℕ)
+        (earlier later : History) (callers : List ℕ) → PutsOnly later
         → AgreesOver some lines_of line_entries trace replies workers earlier later callers
         → AgreesOver other lines_of line_entries trace replies workers earlier later callers }
 {}
 
 /// In a legal history a vector's name is the one that an entry gave it.
 pub fn names_are_given_by_entries()
-    ensures given { (flag_count : ℕ) (h : History) (v : Vector) (id : ℕ) → IsLegal flag_count h → name_of h v ≡ Some id → IsNamedIn h v id }
-    ensures named { (flag_count : ℕ) (h : History) (v : Vector) (id : ℕ) → IsLegal flag_count h → IsNamedIn h v id → name_of h v ≡ Some id }
+    ensures given { (flag_count : ℕ) (h : History) (v : Vector) (id : ℕ) → IsLegal flag_count h
+        → name_of h v ≡ Some id → IsNamedIn h v id }
+    ensures named { (flag_count : ℕ) (h : History) (v : Vector) (id : ℕ) → IsLegal flag_count h
+        → IsNamedIn h v id → name_of h v ≡ Some id }
 {}
 
-/// What replies that agree with a history tell of the lines of their trace, however these were dealt out to workers: the identifiers whoever else called
-/// and whatever was called before, the counts where nobody else did and nothing was.
+/// What replies that agree with a history tell of the lines of their trace, however these were dealt out to
+/// workers: the identifiers whoever else called and whatever was called before, the counts where nobody
+/// else did and nothing was.
 pub fn replies_tell_of_lines()
-    ensures equal_lines_equal_identifiers { (flag_count : ℕ) (trace : List Vector) (replies : List Reply) (workers block : ℕ) (earlier h : History) (callers : List ℕ)
-        → AgreesAmongOthers flag_count trace replies workers block earlier h callers → 0 < workers → EqualLinesEqualIds trace replies }
-    ensures different_lines_different_identifiers { (flag_count : ℕ) (trace : List Vector) (replies : List Reply) (workers block : ℕ) (earlier h : History) (callers : List ℕ)
-        → AgreesAmongOthers flag_count trace replies workers block earlier h callers → 0 < workers → DifferentLinesDifferentIds trace replies }
-    ensures count_is_the_number_of_names { (flag_count : ℕ) (trace : List Vector) (replies : List Reply) (workers block : ℕ) (h : History) (callers : List ℕ)
-        → Agrees flag_count trace replies workers block [] h callers → 0 < workers → CountsNames replies h }
-    ensures each_new_exactly_once { (flag_count : ℕ) (trace : List Vector) (replies : List Reply) (workers block : ℕ) (h : History) (callers : List ℕ)
-        → Agrees flag_count trace replies workers block [] h callers → 0 < workers → EachNewOnce trace replies }
-    ensures count_is_the_number_of_distinct_lines { (flag_count : ℕ) (trace : List Vector) (replies : List Reply) (workers block : ℕ) (h : History) (callers : List ℕ)
-        → Agrees flag_count trace replies workers block [] h callers → 0 < workers → CountsDistinct trace replies }
+    ensures equal_lines_equal_identifiers { (flag_count : ℕ) (trace : List Vector) (replies : List Reply) (workers block : ℕ)
+        (earlier h : History) (callers : List ℕ)
+        → AgreesAmongOthers flag_count trace replies workers block earlier h callers → 0 < workers
+        → EqualLinesEqualIds trace replies }
+    ensures different_lines_different_identifiers { (flag_count : ℕ) (trace : List Vector) (replies : List Reply) (workers block : ℕ)
+        (earlier h : History) (callers : List ℕ)
+        → AgreesAmongOthers flag_count trace replies workers block earlier h callers → 0 < workers
+        → DifferentLinesDifferentIds trace replies }
+    ensures count_is_the_number_of_names { (flag_count : ℕ) (trace : List Vector) (replies : List Reply) (workers block : ℕ)
+        (h : History) (callers : List ℕ)
+        → Agrees flag_count trace replies workers block [] h callers → 0 < workers
+        → CountsNames replies h }
+    ensures each_new_exactly_once { (flag_count : ℕ) (trace : List Vector) (replies : List Reply) (workers block : ℕ)
+        (h : History) (callers : List ℕ)
+        → Agrees flag_count trace replies workers block [] h callers → 0 < workers
+        → EachNewOnce trace replies }
+    ensures count_is_the_number_of_distinct_lines { (flag_count : ℕ) (trace : List Vector) (replies : List Reply) (workers block : ℕ)
+        (h : History) (callers : List ℕ)
+        → Agrees flag_count trace replies workers block [] h callers → 0 < workers
+        → CountsDistinct trace replies }
 {}
 
-/// A history can be told with other numbers for its callers: no name and no flags change, and it stays legal. Where nobody but a trace's workers
-/// called, its replies agree with the history in which the workers are numbered from 0.
+/// A history can be told with other numbers for its callers: no name and no flags change, and it stays
+/// legal. Where nobody but a trace's workers called, its replies agree with the history in which the
+/// workers are numbered from 0.
 pub fn callers_may_be_renumbered()
     ensures names { (given : ℕ → ℕ) (h : History) (v : Vector) → name_of (renamed given h) v ≡ name_of h v }
     ensures flags { (given : ℕ → ℕ) (h : History) (v : Vector) → flags_of (renamed given h) v ≡ flags_of h v }
     ensures named { (given : ℕ → ℕ) (h : History) → named (renamed given h) ≡ named h }
-    ensures legal { (flag_count : ℕ) (given : ℕ → ℕ) (h : History) → IsLegal flag_count h → IsLegal flag_count (renamed given h) }
-    ensures agrees { (flag_count : ℕ) (trace : List Vector) (replies : List Reply) (workers block : ℕ) (h : History) (callers : List ℕ)
-        → Agrees flag_count trace replies workers block [] h callers → Agrees flag_count trace replies workers block [] (renamed (place_of callers) h) (range_with_len 0 workers) }
+    ensures legal { (flag_count : ℕ) (given : ℕ → ℕ) (h : History) → IsLegal flag_count h
+        → IsLegal flag_count (renamed given h) }
+    ensures agrees { (flag_count : ℕ) (trace : List Vector) (replies : List Reply) (workers block : ℕ)
+        (h : History) (callers : List ℕ)
+        → Agrees flag_count trace replies workers block [] h callers
+        → Agrees flag_count trace replies workers block []
+        (renamed (place_of callers) h) (range_with_len 0 workers) }
 {}

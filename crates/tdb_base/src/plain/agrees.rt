@@ -3,7 +3,7 @@
 ghost use Rattle.std.specs.Prelude.{[], ◌≡◌, ◌++◌, ◌&&◌, ◌↔◌, ◌<◌, ◌^◌, ℕ, Some, None, Contains, IsTrue, All, length, map, not, slice_get, true, false};
 ghost use Rattle.std.specs.List.{filter_map};
 ghost use Rattle.std.specs.Option.{option_copied};
-ghost use Rattle.tdb_base.specs.Agrees.{Agrees, AgreesAmongOthers, entry_of_line, entry_of};
+ghost use Rattle.tdb_base.specs.Agrees.{Agrees, AgreesAmongOthers, entry_of, entry_of_line};
 ghost use Rattle.tdb_base.specs.History as h;
 ghost use Rattle.tdb_base.specs.Legal.{Extends};
 ghost use Rattle.tdb_base.specs.Lines as lines;
@@ -148,7 +148,8 @@ fn all_in_order(
     requires some { 0 < workers }
     requires block { 0 < block }
     ensures { IsTrue result ↔ ((j c : ℕ) → slice_get callers.now j ≡ Some c
-        → h.calls later.now c ≡ filter_map (entry_of_line c (map (λ v. v.items) trace.now) replies.now) (lines.mine (length (map (λ v. v.items) trace.now)) workers block j)) }
+        → h.calls later.now c ≡ filter_map (entry_of_line c (map (λ v. v.items) trace.now) replies.now)
+        (lines.mine (length (map (λ v. v.items) trace.now)) workers block j)) }
 {
     for j in 0..callers.len() {
         if !in_order(trace, replies, workers, block, j as u64, later, callers[j]) {
@@ -172,7 +173,8 @@ fn in_order(
     requires some { 0 < workers }
     requires block { 0 < block }
     ensures { IsTrue result ↔ (h.calls later.now caller
-        ≡ filter_map (entry_of_line caller (map (λ v. v.items) trace.now) replies.now) (lines.mine (length (map (λ v. v.items) trace.now)) workers block worker)) }
+        ≡ filter_map (entry_of_line caller (map (λ v. v.items) trace.now) replies.now)
+        (lines.mine (length (map (λ v. v.items) trace.now)) workers block worker)) }
 {
     let mut fine = true;
     let mut number = 0;
