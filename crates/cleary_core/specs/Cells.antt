@@ -25,7 +25,8 @@ mark_of true = 1
 mark_of false = 0
 
 abbrev pub packed : Sizes → Cell → ℕ
-packed z c = mark_of c.occupied + 2 * (mark_of c.virgin + 2 * (mark_of c.change + 2 * (c.quotient * 2 ^ z.flags + c.flags)))
+packed z c = mark_of c.occupied + 2 *
+    (mark_of c.virgin + 2 * (mark_of c.change + 2 * (c.quotient * 2 ^ z.flags + c.flags)))
 
 abbrev pub unpacked : Sizes → ℕ → Cell
 unpacked z w = record {

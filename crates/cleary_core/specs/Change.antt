@@ -8,7 +8,14 @@ use Rattle.cleary_core.specs.Search.{InRun, Placed, Row}
 
 -- one key put into a cell whose virgin bit stays, and its home marked
 pub record Put (old new : ℕ → Cell) (place home quotient : ℕ) (fresh : Bool) : Type 0 where
-  pub here : new place ≡ record { occupied = true; virgin = (new place).virgin; change = fresh; flags = 0; quotient = quotient }
+  pub here : new place ≡ record {
+    occupied = true;
+    virgin = (new place).virgin;
+    change = fresh;
+    flags =
+        0;
+    quotient = quotient;
+  }
   pub others : (j : ℕ) → j ≢ place → new j ≡ carried (new j).virgin (old j)
   pub marked : (new home).virgin ≡ true
   pub unmarked : (j : ℕ) → j ≢ home → (new j).virgin ≡ (old j).virgin
@@ -26,13 +33,15 @@ pub record ShiftedDown (old new : ℕ → Cell) (free place : ℕ) : Type 0 wher
   pub above : (j : ℕ) → place ≤ j → new j ≡ old j
 
 -- where a new key of a home belongs in the home's run, and whether it is the first of its home
-pub record Belongs (n : ℕ) (cells : ℕ → Cell) (slots : Slots) (keys : List Key) (start place home quotient : ℕ) (fresh : Bool) : Type 0 where
+pub record Belongs (n : ℕ) (cells : ℕ → Cell) (slots : Slots) (keys : List Key)
+    (start place home quotient : ℕ) (fresh : Bool) : Type 0 where
   pub run : InRun n cells slots start home
   pub placed : Placed n slots start place home
   pub absent : Present keys home quotient → ⊥
   pub first : fresh ≡ not (cells home).virgin
 
--- only cells of the home's run change: those from `low` up to `high`, which are occupied afterwards, and were before but for the first or the last
+-- only cells of the home's run change: those from `low` up to `high`, which are occupied afterwards, and were
+-- before but for the first or the last
 pub record InOneRun (n : ℕ) (old new : ℕ → Cell) (home : ℕ) : Type 0 where
   pub low : ℕ
   pub high : ℕ

@@ -7,7 +7,8 @@ use Rattle.cleary_core.specs.Sentences.{Sentences}
 
 -- words keep a map exactly where its sentences hold of their cells
 abbrev pub KeepsBySentences : Type 0
-KeepsBySentences = (z : Sizes) (words : List ℕ) (keys : List Key) → KeepsMap z words keys ↔ Sentences z.cells (cell_at z words) keys
+KeepsBySentences = (z : Sizes) (words : List ℕ) (keys : List Key)
+    → KeepsMap z words keys ↔ Sentences z.cells (cell_at z words) keys
 
 -- a region has no more keys than cells
 abbrev pub HasFewKeys : Type 0
@@ -18,7 +19,8 @@ abbrev pub HasOneEntry : Type 0
 HasOneEntry = (z : Sizes) (words : List ℕ) (keys : List Key) → KeepsMap z words keys → IsMap keys
 
 abbrev pub HasKeysInRange : Type 0
-HasKeysInRange = (z : Sizes) (words : List ℕ) (keys : List Key) → KeepsMap z words keys → (k : Key) → Has k keys → (k.home < z.cells) × (k.quotient < 2 ^ z.quotient) × (k.flags < 2 ^ z.flags)
+HasKeysInRange = (z : Sizes) (words : List ℕ) (keys : List Key) → KeepsMap z words keys → (k : Key)
+    → Has k keys → (k.home < z.cells) × (k.quotient < 2 ^ z.quotient) × (k.flags < 2 ^ z.flags)
 
 -- words that are all 0 keep the empty map
 abbrev pub ZerosKeepNothing : Type 0

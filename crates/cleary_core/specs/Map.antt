@@ -1,5 +1,6 @@
 -- What a region keeps: a map from (home, quotient) to flags.
-use Rattle.std.specs.Prelude.{◌≡◌, ◌≢◌, ◌⊎◌, ℕ, zero, suc, ◌+◌, ◌<◌, ◌≤◌, true, false, List, [], ◌∷◌, length, Option, Some, None, ⊤}
+use Rattle.std.specs.Prelude.{◌≡◌, ◌≢◌, ◌⊎◌, ℕ, zero, suc, ◌+◌, ◌<◌, ◌≤◌, true, false, List, [], ◌∷◌, length}
+use Rattle.std.specs.Prelude.{Option, Some, None, ⊤}
 use Rattle.cleary_core.specs.declared.cells.Cell.{Cell}
 use Rattle.cleary_core.specs.declared.cells.Sizes.{Sizes}
 use Rattle.cleary_core.specs.Cells.{mark_of, cell_at}
@@ -34,7 +35,8 @@ Last slots i home = (j : ℕ) (k : Key) → i < j → slots j ≡ Some k → k.h
 pub record Laid (n : ℕ) (slots : Slots) : Type 0 where
   pub past : (i : ℕ) (k : Key) → slots i ≡ Some k → i < n
   -- each key once
-  pub once : (i j : ℕ) (k l : Key) → slots i ≡ Some k → slots j ≡ Some l → k.home ≡ l.home → k.quotient ≡ l.quotient → i ≡ j
+  pub once : (i j : ℕ) (k l : Key) → slots i ≡ Some k → slots j ≡ Some l → k.home ≡ l.home
+      → k.quotient ≡ l.quotient → i ≡ j
   -- groups stand in rising order of their homes
   pub rising : (i j : ℕ) (k l : Key) → i < j → slots i ≡ Some k → slots j ≡ Some l → k.home ≤ l.home
   -- a key's home lies in the key's run: each cell from one to the other is occupied
@@ -51,7 +53,8 @@ pub record Drawn (n : ℕ) (cells : ℕ → Cell) (slots : Slots) : Type 0 where
   pub quotient : (i : ℕ) (k : Key) → slots i ≡ Some k → (cells i).quotient ≡ k.quotient
   pub flags : (i : ℕ) (k : Key) → slots i ≡ Some k → (cells i).flags ≡ k.flags
   -- virgin is set exactly on the homes
-  pub virgin : (i : ℕ) → i < n → (cells i).virgin ≡ true → (j : ℕ) × (k : Key) × (slots j ≡ Some k) × (k.home ≡ i)
+  pub virgin : (i : ℕ) → i < n → (cells i).virgin ≡ true
+      → (j : ℕ) × (k : Key) × (slots j ≡ Some k) × (k.home ≡ i)
   pub home : (j : ℕ) (k : Key) → slots j ≡ Some k → (cells k.home).virgin ≡ true
   -- change is set exactly on the last cell of each group
   pub change : (i : ℕ) (k : Key) → slots i ≡ Some k → (cells i).change ≡ true → Last slots i k.home
@@ -68,7 +71,8 @@ pub record Holds (n : ℕ) (cells : ℕ → Cell) (slots : Slots) (keys : List K
   pub all : (k : Key) → Has k keys → (i : ℕ) × (slots i ≡ Some k)
   pub only : (i : ℕ) (k : Key) → slots i ≡ Some k → Has k keys
 
--- `n` cells keep a map: the working form, which names the key of each cell. `specs/Sentences` has the form to be believed
+-- `n` cells keep a map: the working form, which names the key of each cell. `specs/Sentences` has the form to
+-- be believed
 pub record Keeps (n : ℕ) (cells : ℕ → Cell) (keys : List Key) : Type 0 where
   pub slots : Slots
   pub laid : Laid n slots

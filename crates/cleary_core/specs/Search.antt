@@ -1,5 +1,6 @@
 -- What the parts of a search find.
-use Rattle.std.specs.Prelude.{◌≡◌, ◌≢◌, ℕ, zero, suc, ◌+◌, ◌-◌, ◌<◌, ◌≤◌, true, false, List, Option, Some, MatchOption}
+use Rattle.std.specs.Prelude.{◌≡◌, ◌≢◌, ℕ, zero, suc, ◌+◌, ◌-◌, ◌<◌, ◌≤◌, true, false, List, Option, Some}
+use Rattle.std.specs.Prelude.{MatchOption}
 use Rattle.cleary_core.specs.declared.cells.Cell.{Cell}
 use Rattle.cleary_core.specs.declared.cells.Sizes.{Sizes}
 use Rattle.cleary_core.specs.Access.{Agrees, Reaches}
@@ -61,7 +62,8 @@ pub record RunEnd (n : ℕ) (cells : ℕ → Cell) (from stop : ℕ) : Type 0 wh
 
 abbrev pub Searched : Option ℕ → ℕ → (ℕ → Cell) → ℕ → ℕ → Type 0
 Searched found n cells at quotient = MatchOption found
-    ((i : ℕ) × (at ≤ i) × (i < n) × Unbroken cells at i × ((cells i).change ≡ true) × ((j : ℕ) → at ≤ j → j ≤ i → (cells j).quotient ≢ quotient))
+    ((i : ℕ) × (at ≤ i) × (i < n) × Unbroken cells at i × ((cells i).change ≡ true)
+    × ((j : ℕ) → at ≤ j → j ≤ i → (cells j).quotient ≢ quotient))
     (λ i. (at ≤ i) × (i < n) × Unbroken cells at i × ((cells i).quotient ≡ quotient))
 
 -- the cell that has the key, if any has
@@ -69,7 +71,8 @@ abbrev pub Located : Option ℕ → (slots : Slots) → List Key → ℕ → ℕ
 Located found slots keys home quotient = MatchOption found (Present keys home quotient → ⊥)
     (λ i. (k : Key) × (slots i ≡ Some k) × (k.home ≡ home) × (k.quotient ≡ quotient))
 
--- what a search for a key of `home` found stands in words of the home's run, and of the cell on either side of it
+-- what a search for a key of `home` found stands in words of the home's run, and of the cell on either side
+-- of it
 pub record ReachesRun (before after : ℕ → ℕ → Type 0) (z : Sizes) (cells : ℕ → Cell) (home : ℕ) : Type 0 where
   pub low : ℕ
   pub high : ℕ
@@ -77,7 +80,8 @@ pub record ReachesRun (before after : ℕ → ℕ → Type 0) (z : Sizes) (cells
   pub row : Row cells low high
   pub reach : Reaches before after z (low - 1) (suc high)
 
--- what a search for a quotient from `from` on found stands in words of the cells from there up to some, before the last of which none has change
+-- what a search for a quotient from `from` on found stands in words of the cells from there up to some,
+-- before the last of which none has change
 pub record ReachesGroup (before after : ℕ → ℕ → Type 0) (z : Sizes) (from : ℕ) : Type 0 where
   pub high : ℕ
   pub span : (from ≤ high) × (high ≤ z.cells)
@@ -91,8 +95,10 @@ pub record ReachesRow (before after : ℕ → ℕ → Type 0) (z : Sizes) (cells
   pub row : Row cells from high
   pub reach : Reaches before after z from high
 
--- what was found or put stands in words of the run that begins at `start`, from its home on up to some occupied cells, and of the cell on either side
-pub record ReachesEnd (before after : ℕ → ℕ → Type 0) (z : Sizes) (cells : ℕ → Cell) (start home : ℕ) : Type 0 where
+-- what was found or put stands in words of the run that begins at `start`, from its home on up to some
+-- occupied cells, and of the cell on either side
+pub record ReachesEnd (before after : ℕ → ℕ → Type 0) (z : Sizes) (cells : ℕ → Cell)
+    (start home : ℕ) : Type 0 where
   pub high : ℕ
   pub span : (home ≤ high) × (high ≤ z.cells)
   pub row : Row cells home high

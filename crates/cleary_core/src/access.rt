@@ -5,8 +5,8 @@ ghost use Rattle.cleary_core.specs.Access.{Agrees};
 
 /// The words of a region as they are reached, one at a time.
 ///
-/// A reader without a lock may find two words at one place, if it asks twice, and what it found may be words of no one moment.
-/// A contract over `reached` speaks of whatever words agree with all that was found.
+/// A reader without a lock may find two words at one place, if it asks twice, and what it found may be words
+/// of no one moment. A contract over `reached` speaks of whatever words agree with all that was found.
 pub trait ReadWords {
     /// There are so many words, and they can be reached. What else must hold for that, each `impl` says here.
     ghost spans: { Self → ℕ → Type 0 };
@@ -14,7 +14,8 @@ pub trait ReadWords {
     /// This word was found at this place.
     ghost reached: { Self → ℕ → ℕ → Type 0 };
 
-    /// The second comes from the first by reading alone. What else a reading leaves as it was, each `impl` says here.
+    /// The second comes from the first by reading alone. What else a reading leaves as it was, each `impl`
+    /// says here.
     ghost reads: { Self → Self → Type 0 };
 
     /// The word at a place.
@@ -38,7 +39,8 @@ pub trait WriteWords: ReadWords {
     /// The words.
     ghost words: { Self → List ℕ };
 
-    /// The second comes from the first by reading and writing words alone. What else these leave as it was, each `impl` says here.
+    /// The second comes from the first by reading and writing words alone. What else these leave as it was,
+    /// each `impl` says here.
     ghost writes: { Self → Self → Type 0 };
 
     /// Puts a word at a place that has another.

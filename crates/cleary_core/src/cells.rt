@@ -11,8 +11,8 @@ pub struct Sizes {
     pub quotient: u32,
 }
 
-/// One cell. `virgin` says that some key has this cell as its home, `change` that this cell is the last of its group; the
-/// others belong to the key that stands here.
+/// One cell. `virgin` says that some key has this cell as its home, `change` that this cell is the last of
+/// its group; the others belong to the key that stands here.
 #[derive(Clone, Copy)]
 pub struct Cell {
     pub occupied: bool,

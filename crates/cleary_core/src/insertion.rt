@@ -39,9 +39,11 @@ fn group_has<A: ReadWords>(
     requires region { IsRegion sizes.now }
     requires words { A.spans access.old (word_count sizes.now) }
     requires inside { place ≤ sizes.now.cells }
-    ensures tells { (words : List ℕ) (keys : List Key) (start home : ℕ) → Agrees (A.reached access.new) words → (k : Keeps sizes.now.cells (cell_at sizes.now words) keys)
+    ensures tells { (words : List ℕ) (keys : List Key) (start home : ℕ) → Agrees (A.reached access.new) words
+        → (k : Keeps sizes.now.cells (cell_at sizes.now words) keys)
         → InRun sizes.now.cells (cell_at sizes.now words) k.slots start home → Placed sizes.now.cells k.slots start place home → (cell_at sizes.now words home).virgin ≡ virgin → Tells result keys home quotient }
-    ensures near { (words : List ℕ) (keys : List Key) (start home : ℕ) → Agrees (A.reached access.new) words → (k : Keeps sizes.now.cells (cell_at sizes.now words) keys)
+    ensures near { (words : List ℕ) (keys : List Key) (start home : ℕ) → Agrees (A.reached access.new) words
+        → (k : Keeps sizes.now.cells (cell_at sizes.now words) keys)
         → InRun sizes.now.cells (cell_at sizes.now words) k.slots start home → Placed sizes.now.cells k.slots start place home → (cell_at sizes.now words home).virgin ≡ virgin
         → ReachesRow (A.reached access.old) (A.reached access.new) sizes.now (cell_at sizes.now words) place }
     ensures reads { A.reads access.old access.new }
@@ -56,7 +58,8 @@ fn group_has<A: ReadWords>(
     }
 }
 
-// Adds a key that the map hasn't: the keys from its place on move by one towards the run's end, or those before it towards the run's start.
+// Adds a key that the map hasn't: the keys from its place on move by one towards the run's end, or those
+// before it towards the run's start.
 fn add_key<A: WriteWords>(
     sizes: &Sizes,
     access: &mut A,
@@ -71,10 +74,15 @@ fn add_key<A: WriteWords>(
     requires kept { (keys : List Key) × KeepsMap sizes.now (A.words access.old) keys }
     requires gap { (keys : List Key) (k : Keeps sizes.now.cells (cell_at sizes.now (A.words access.old)) keys)
         → Belongs sizes.now.cells (cell_at sizes.now (A.words access.old)) k.slots keys gap.now.start gap.now.place home quotient gap.now.fresh }
-    ensures answer { (keys : List Key) → KeepsMap sizes.now (A.words access.old) keys → Answered result sizes.now keys home quotient (A.words access.new) }
-    ensures unchanged { MatchResult result (λ fresh. MatchBool fresh ⊤ (A.words access.new ≡ A.words access.old)) (λ _. A.words access.new ≡ A.words access.old) }
-    ensures others { InOneRun sizes.now.cells (cell_at sizes.now (A.words access.old)) (cell_at sizes.now (A.words access.new)) home }
-    ensures near { ReachesEnd (A.reached access.old) (A.reached access.new) sizes.now (cell_at sizes.now (A.words access.old)) gap.now.start home }
+    ensures answer { (keys : List Key) → KeepsMap sizes.now (A.words access.old) keys
+        → Answered result sizes.now keys home quotient (A.words access.new) }
+    ensures unchanged { MatchResult result
+        (λ fresh. MatchBool fresh ⊤ (A.words access.new ≡ A.words access.old)) (λ _.
+        A.words access.new ≡ A.words access.old) }
+    ensures others { InOneRun sizes.now.cells (cell_at sizes.now (A.words access.old))
+        (cell_at sizes.now (A.words access.new)) home }
+    ensures near { ReachesEnd (A.reached access.old) (A.reached access.new) sizes.now
+        (cell_at sizes.now (A.words access.old)) gap.now.start home }
     ensures words { A.spans access.new (word_count sizes.now) }
     ensures writes { A.writes access.old access.new }
 {
@@ -104,10 +112,15 @@ pub(crate) fn insert_key<A: WriteWords>(
     requires inside { home < sizes.now.cells }
     requires small { quotient < 2 ^ sizes.now.quotient }
     requires kept { (keys : List Key) × KeepsMap sizes.now (A.words access.old) keys }
-    ensures answer { (keys : List Key) → KeepsMap sizes.now (A.words access.old) keys → Answered result sizes.now keys home quotient (A.words access.new) }
-    ensures unchanged { MatchResult result (λ fresh. MatchBool fresh ⊤ (A.words access.new ≡ A.words access.old)) (λ _. A.words access.new ≡ A.words access.old) }
-    ensures others { InOneRun sizes.now.cells (cell_at sizes.now (A.words access.old)) (cell_at sizes.now (A.words access.new)) home }
-    ensures near { ReachesRun (A.reached access.old) (A.reached access.new) sizes.now (cell_at sizes.now (A.words access.old)) home }
+    ensures answer { (keys : List Key) → KeepsMap sizes.now (A.words access.old) keys
+        → Answered result sizes.now keys home quotient (A.words access.new) }
+    ensures unchanged { MatchResult result
+        (λ fresh. MatchBool fresh ⊤ (A.words access.new ≡ A.words access.old)) (λ _.
+        A.words access.new ≡ A.words access.old) }
+    ensures others { InOneRun sizes.now.cells (cell_at sizes.now (A.words access.old))
+        (cell_at sizes.now (A.words access.new)) home }
+    ensures near { ReachesRun (A.reached access.old) (A.reached access.new) sizes.now
+        (cell_at sizes.now (A.words access.old)) home }
     ensures words { A.spans access.new (word_count sizes.now) }
     ensures writes { A.writes access.old access.new }
 {

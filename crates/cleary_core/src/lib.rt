@@ -1,4 +1,5 @@
-//! One region of a compact hash table: bit-packed cells that keep a map from (home, quotient) to flags (Cleary 1984).
+//! One region of a compact hash table: bit-packed cells that keep a map from (home, quotient) to flags
+//! (Cleary 1984).
 #![tactic(auto)]
 
 mod access;

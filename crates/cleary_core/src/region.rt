@@ -1,8 +1,10 @@
 //! A region, and its calls.
 
-ghost use Rattle.std.specs.Prelude.{◌≡◌, ℕ, ◌+◌, ◌-◌, ◌*◌, ◌^◌, ◌<◌, ◌≤◌, List, length, MatchBool, MatchResult, ⊤};
+ghost use Rattle.std.specs.Prelude.{◌≡◌, ℕ, ◌+◌, ◌-◌, ◌*◌, ◌^◌, ◌<◌, ◌≤◌, List, length, MatchBool};
+ghost use Rattle.std.specs.Prelude.{MatchResult, ⊤};
 ghost use Rattle.cleary_core.specs.Access.{Agrees};
-ghost use Rattle.cleary_core.specs.Answers.{Tells, TellsFlags, Decides, DecidesFlags, Answered, StayWithout, flagged};
+ghost use Rattle.cleary_core.specs.Answers.{Tells, TellsFlags, Decides, DecidesFlags, Answered, StayWithout};
+ghost use Rattle.cleary_core.specs.Answers.{flagged};
 ghost use Rattle.cleary_core.specs.Cells.{IsRegion, cell_at, sizes_of, word_count};
 ghost use Rattle.cleary_core.specs.Change.{InOneRun, OnlyFlags};
 ghost use Rattle.cleary_core.specs.Map.{Key, KeepsMap};
@@ -15,9 +17,10 @@ use crate::reading::{locate, read_cell};
 use crate::writing::{own_cell, write_cell};
 use std::marker::Model;
 
-/// One region of a table of `2^r` cells, cut into regions of `2^s`: a map from a home below `2^s` and a quotient below
-/// `2^(2W - r)` to flags below `2^F`, kept in the region's `2^(s - 6) * C` words of 64 bits, where a cell has
-/// `C = 2W - r + 3 + F` bits. The words are lent to each call. Contracts see a region as its sizes.
+/// One region of a table of `2^r` cells, cut into regions of `2^s`: a map from a home below `2^s` and a
+/// quotient below `2^(2W - r)` to flags below `2^F`, kept in the region's `2^(s - 6) * C` words of 64 bits,
+/// where a cell has `C = 2W - r + 3 + F` bits. The words are lent to each call. Contracts see a region as its
+/// sizes.
 #[derive(Drop)]
 pub struct Region<const W: u32, const F: u32> {
     sizes: Sizes,
@@ -94,15 +97,18 @@ impl<const W: u32, const F: u32> Region<W, F> {
         self.find_in(&mut SliceReader { words }, home, quotient)
     }
 
-    /// Whether the map has the key, by words that are reached one at a time: those of the home's run, and of the cell on either side of it.
+    /// Whether the map has the key, by words that are reached one at a time: those of the home's run, and of
+    /// the cell on either side of it.
     ///
-    /// It ends and stays within the region whatever it finds, also where the words are of no one moment and keep no map. What it
-    /// reached decides its answer: whatever words agree with that and keep a map, the answer is true of that map.
+    /// It ends and stays within the region whatever it finds, also where the words are of no one moment and
+    /// keep no map. What it reached decides its answer: whatever words agree with that and keep a map, the
+    /// answer is true of that map.
     pub fn find_in<A: ReadWords>(&self, access: &mut A, home: u64, quotient: u64) -> bool
         requires words { A.spans access.old (word_count self.now) }
         requires home { home < self.now.cells }
         ensures decided { Decides self.now (A.reached access.new) home quotient result }
-        ensures near { (words : List ℕ) (keys : List Key) → length words ≡ word_count self.now → Agrees (A.reached access.new) words → KeepsMap self.now words keys
+        ensures near { (words : List ℕ) (keys : List Key) → length words ≡ word_count self.now
+            → Agrees (A.reached access.new) words → KeepsMap self.now words keys
             → ReachesRun (A.reached access.old) (A.reached access.new) self.now (cell_at self.now words) home }
         ensures words { A.spans access.new (word_count self.now) }
         ensures reads { A.reads access.old access.new }
@@ -113,23 +119,27 @@ impl<const W: u32, const F: u32> Region<W, F> {
         }
     }
 
-    /// Adds a key with flags 0. `Ok(true)` says that it is new, and `Ok(false)` that it was there. `RegionFull` comes exactly where the
-    /// map hasn't the key and has `2^s` keys. With these two the words stay.
+    /// Adds a key with flags 0. `Ok(true)` says that it is new, and `Ok(false)` that it was there.
+    /// `RegionFull` comes exactly where the map hasn't the key and has `2^s` keys. With these two the words
+    /// stay.
     pub fn insert(&self, words: &mut [u64], home: u64, quotient: u64) -> Result<bool, RegionFull>
         requires words { length words.old ≡ word_count self.now }
         requires home { home < self.now.cells }
         requires quotient { quotient < 2 ^ self.now.quotient }
         requires kept { (keys : List Key) × KeepsMap self.now words.old keys }
-        ensures answer { (keys : List Key) → KeepsMap self.now words.old keys → Answered result self.now keys home quotient words.new }
-        ensures others { InOneRun self.now.cells (cell_at self.now words.old) (cell_at self.now words.new) home }
+        ensures answer { (keys : List Key) → KeepsMap self.now words.old keys
+            → Answered result self.now keys home quotient words.new }
+        ensures others { InOneRun self.now.cells (cell_at self.now words.old)
+            (cell_at self.now words.new) home }
         ensures kept { (keys : List Key) × KeepsMap self.now words.new keys }
-        ensures unchanged { MatchResult result (λ fresh. MatchBool fresh ⊤ (words.new ≡ words.old)) (λ _. words.new ≡ words.old) }
+        ensures unchanged { MatchResult result (λ fresh. MatchBool fresh ⊤ (words.new ≡ words.old))
+            (λ _. words.new ≡ words.old) }
     {
         self.insert_in(&mut SliceWriter { words }, home, quotient)
     }
 
-    /// `insert` into words that are reached one at a time: those of the home's run, and of the cell on either side of it. It puts only words that change, and
-    /// only cells of the run change.
+    /// `insert` into words that are reached one at a time: those of the home's run, and of the cell on either
+    /// side of it. It puts only words that change, and only cells of the run change.
     pub fn insert_in<A: WriteWords>(
         &self,
         access: &mut A,
@@ -140,11 +150,16 @@ impl<const W: u32, const F: u32> Region<W, F> {
         requires home { home < self.now.cells }
         requires quotient { quotient < 2 ^ self.now.quotient }
         requires kept { (keys : List Key) × KeepsMap self.now (A.words access.old) keys }
-        ensures answer { (keys : List Key) → KeepsMap self.now (A.words access.old) keys → Answered result self.now keys home quotient (A.words access.new) }
-        ensures others { InOneRun self.now.cells (cell_at self.now (A.words access.old)) (cell_at self.now (A.words access.new)) home }
-        ensures near { ReachesRun (A.reached access.old) (A.reached access.new) self.now (cell_at self.now (A.words access.old)) home }
+        ensures answer { (keys : List Key) → KeepsMap self.now (A.words access.old) keys
+            → Answered result self.now keys home quotient (A.words access.new) }
+        ensures others { InOneRun self.now.cells (cell_at self.now (A.words access.old))
+            (cell_at self.now (A.words access.new)) home }
+        ensures near { ReachesRun (A.reached access.old) (A.reached access.new) self.now
+            (cell_at self.now (A.words access.old)) home }
         ensures kept { (keys : List Key) × KeepsMap self.now (A.words access.new) keys }
-        ensures unchanged { MatchResult result (λ fresh. MatchBool fresh ⊤ (A.words access.new ≡ A.words access.old)) (λ _. A.words access.new ≡ A.words access.old) }
+        ensures unchanged { MatchResult result
+            (λ fresh. MatchBool fresh ⊤ (A.words access.new ≡ A.words access.old)) (λ _.
+            A.words access.new ≡ A.words access.old) }
         ensures words { A.spans access.new (word_count self.now) }
         ensures writes { A.writes access.old access.new }
     {
@@ -155,12 +170,14 @@ impl<const W: u32, const F: u32> Region<W, F> {
     pub fn flags(&self, words: &[u64], home: u64, quotient: u64) -> u64
         requires words { length words.now ≡ word_count self.now }
         requires home { home < self.now.cells }
-        ensures { (keys : List Key) → KeepsMap self.now words.now keys → TellsFlags result keys home quotient }
+        ensures { (keys : List Key) → KeepsMap self.now words.now keys
+            → TellsFlags result keys home quotient }
     {
         self.flags_in(&mut SliceReader { words }, home, quotient)
     }
 
-    /// `flags` of words that are reached one at a time. As with `find_in`, what it reached decides the answer.
+    /// `flags` of words that are reached one at a time. As with `find_in`, what it reached decides the
+    /// answer.
     pub fn flags_in<A: ReadWords>(&self, access: &mut A, home: u64, quotient: u64) -> u64
         requires words { A.spans access.old (word_count self.now) }
         requires home { home < self.now.cells }
@@ -174,13 +191,15 @@ impl<const W: u32, const F: u32> Region<W, F> {
         }
     }
 
-    /// Sets the flags of a key, if the map has it, to a value below `2^F`. All else stays: no other cell changes, and where the map hasn't the key no word does.
+    /// Sets the flags of a key, if the map has it, to a value below `2^F`. All else stays: no other cell
+    /// changes, and where the map hasn't the key no word does.
     pub fn set_flags(&self, words: &mut [u64], home: u64, quotient: u64, value: u64)
         requires words { length words.old ≡ word_count self.now }
         requires home { home < self.now.cells }
         requires value { value < 2 ^ self.now.flags }
         requires kept { (keys : List Key) × KeepsMap self.now words.old keys }
-        ensures flagged { (keys : List Key) → KeepsMap self.now words.old keys → KeepsMap self.now words.new (flagged home quotient value keys) }
+        ensures flagged { (keys : List Key) → KeepsMap self.now words.old keys
+            → KeepsMap self.now words.new (flagged home quotient value keys) }
         ensures others { OnlyFlags (cell_at self.now words.old) (cell_at self.now words.new) }
         ensures absent { StayWithout self.now words.old words.new home quotient }
         ensures kept { (keys : List Key) × KeepsMap self.now words.new keys }
@@ -194,8 +213,10 @@ impl<const W: u32, const F: u32> Region<W, F> {
         requires home { home < self.now.cells }
         requires value { value < 2 ^ self.now.flags }
         requires kept { (keys : List Key) × KeepsMap self.now (A.words access.old) keys }
-        ensures flagged { (keys : List Key) → KeepsMap self.now (A.words access.old) keys → KeepsMap self.now (A.words access.new) (flagged home quotient value keys) }
-        ensures others { OnlyFlags (cell_at self.now (A.words access.old)) (cell_at self.now (A.words access.new)) }
+        ensures flagged { (keys : List Key) → KeepsMap self.now (A.words access.old) keys
+            → KeepsMap self.now (A.words access.new) (flagged home quotient value keys) }
+        ensures others { OnlyFlags (cell_at self.now (A.words access.old))
+            (cell_at self.now (A.words access.new)) }
         ensures absent { StayWithout self.now (A.words access.old) (A.words access.new) home quotient }
         ensures kept { (keys : List Key) × KeepsMap self.now (A.words access.new) keys }
         ensures words { A.spans access.new (word_count self.now) }

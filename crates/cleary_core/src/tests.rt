@@ -55,7 +55,8 @@ fn marks_of<const W: u32, const F: u32>(region: &Region<W, F>, words: &[u64]) ->
     marks
 }
 
-// Two keys of the last home: the one that comes later pushes the run down, over the region's end nothing goes.
+// Two keys of the last home: the one that comes later pushes the run down, over the region's end nothing
+// goes.
 fn keeps_two_keys<const W: u32, const F: u32>(
     rt: &impl Abort,
     region: &Region<W, F>,
@@ -151,7 +152,8 @@ fn fills_up<const W: u32, const F: u32>(rt: &impl Abort, region: &Region<W, F>, 
     assert!(rt; region.count(words) == 64);
 }
 
-// Adds a key of home 10 or 11, where only such keys are. Cells of 37 bits: cells 9 to 13 lie in words 5 to 8, cells 10 to 12 in words 5 to 7.
+// Adds a key of home 10 or 11, where only such keys are. Cells of 37 bits: cells 9 to 13 lie in words 5 to 8,
+// cells 10 to 12 in words 5 to 7.
 fn adds_nearby(
     rt: &impl Abort,
     region: &Region<16, 8>,

@@ -1,6 +1,7 @@
 //! Cells are written: one alone, and those that move over by one.
 
-ghost use Rattle.std.specs.Prelude.{◌≡◌, ◌≢◌, ◌⊎◌, ℕ, suc, true, ◌+◌, ◌-◌, ◌*◌, ◌^◌, ◌<◌, ◌≤◌, length, slice_index, slice_set};
+ghost use Rattle.std.specs.Prelude.{◌≡◌, ◌≢◌, ◌⊎◌, ℕ, suc, true, ◌+◌, ◌-◌, ◌*◌, ◌^◌, ◌<◌, ◌≤◌, length};
+ghost use Rattle.std.specs.Prelude.{slice_index, slice_set};
 ghost use Rattle.cleary_core.specs.Access.{Reaches};
 ghost use Rattle.cleary_core.specs.Cells.{width, IsRegion, Small, cell_at, word_count, carried};
 ghost use Rattle.cleary_core.specs.Change.{Put, ShiftedUp, ShiftedDown};
@@ -64,7 +65,8 @@ pub(crate) fn write_cell<A: WriteWords>(sizes: &Sizes, access: &mut A, i: u64, c
     requires small { Small sizes.now cell }
     ensures words { A.spans access.new (word_count sizes.now) }
     ensures here { cell_at sizes.now (A.words access.new) i ≡ cell }
-    ensures others { (j : ℕ) → j ≢ i → cell_at sizes.now (A.words access.new) j ≡ cell_at sizes.now (A.words access.old) j }
+    ensures others { (j : ℕ) → j ≢ i
+        → cell_at sizes.now (A.words access.new) j ≡ cell_at sizes.now (A.words access.old) j }
     ensures near { Reaches (A.reached access.old) (A.reached access.new) sizes.now i (suc i) }
     ensures writes { A.writes access.old access.new }
 {
@@ -94,7 +96,8 @@ pub(crate) fn put_alone<A: WriteWords>(sizes: &Sizes, access: &mut A, home: u64,
     requires inside { home < sizes.now.cells }
     requires small { quotient < 2 ^ sizes.now.quotient }
     ensures words { A.spans access.new (word_count sizes.now) }
-    ensures put { Put (cell_at sizes.now (A.words access.old)) (cell_at sizes.now (A.words access.new)) home home quotient true }
+    ensures put { Put (cell_at sizes.now (A.words access.old))
+        (cell_at sizes.now (A.words access.new)) home home quotient true }
     ensures near { Reaches (A.reached access.old) (A.reached access.new) sizes.now home (suc home) }
     ensures writes { A.writes access.old access.new }
 {
@@ -122,8 +125,10 @@ pub(crate) fn put_key<A: WriteWords>(
     requires inside { (place < sizes.now.cells) × (home < sizes.now.cells) }
     requires small { quotient < 2 ^ sizes.now.quotient }
     ensures words { A.spans access.new (word_count sizes.now) }
-    ensures put { Put (cell_at sizes.now (A.words access.old)) (cell_at sizes.now (A.words access.new)) place home quotient fresh }
-    ensures near { (low high : ℕ) → low ≤ place → place < high → low ≤ home → home < high → Reaches (A.reached access.old) (A.reached access.new) sizes.now low high }
+    ensures put { Put (cell_at sizes.now (A.words access.old))
+        (cell_at sizes.now (A.words access.new)) place home quotient fresh }
+    ensures near { (low high : ℕ) → low ≤ place → place < high → low ≤ home → home < high
+        → Reaches (A.reached access.old) (A.reached access.new) sizes.now low high }
     ensures writes { A.writes access.old access.new }
 {
     let before = own_cell(sizes, access, place);
@@ -153,7 +158,8 @@ pub(crate) fn shift_up<A: WriteWords>(sizes: &Sizes, access: &mut A, place: u64,
     requires words { A.spans access.old (word_count sizes.now) }
     requires inside { (place ≤ free) × (free < sizes.now.cells) }
     ensures words { A.spans access.new (word_count sizes.now) }
-    ensures shifted { ShiftedUp (cell_at sizes.now (A.words access.old)) (cell_at sizes.now (A.words access.new)) place free }
+    ensures shifted { ShiftedUp (cell_at sizes.now (A.words access.old))
+        (cell_at sizes.now (A.words access.new)) place free }
     ensures near { Reaches (A.reached access.old) (A.reached access.new) sizes.now place (suc free) }
     ensures writes { A.writes access.old access.new }
 {
@@ -181,7 +187,8 @@ pub(crate) fn shift_down<A: WriteWords>(sizes: &Sizes, access: &mut A, free: u64
     requires words { A.spans access.old (word_count sizes.now) }
     requires inside { (free ≤ place) × (place < sizes.now.cells) }
     ensures words { A.spans access.new (word_count sizes.now) }
-    ensures shifted { ShiftedDown (cell_at sizes.now (A.words access.old)) (cell_at sizes.now (A.words access.new)) free place }
+    ensures shifted { ShiftedDown (cell_at sizes.now (A.words access.old))
+        (cell_at sizes.now (A.words access.new)) free place }
     ensures near { Reaches (A.reached access.old) (A.reached access.new) sizes.now free (suc place) }
     ensures writes { A.writes access.old access.new }
 {

@@ -137,6 +137,7 @@ if_empty (fault ∷ faults) value = None
 abbrev pub kept : Choice → Option Choice
 kept c = if keeps_rules c then Some c else None
 
--- the choice of the words, none where the command doesn't take them, a value is none of its texts, or a rule is broken
+-- the choice of the words, none where the command doesn't take them, a value is none of its texts, or a rule
+-- is broken
 unfoldable pub chosen : List Text → Option Choice
 chosen words = if_empty (faults words) (given (choice_of (value_of words)) kept)

@@ -1,5 +1,6 @@
 -- The sizes of the tables, where the words leave some out.
-use Rattle.std.specs.Prelude.{◌≡◌, ◌≤◌, ◌<◌, ◌*◌, ◌-◌, ◌^◌, ◌⊎◌, ℕ, MatchOption, if◌then◌else◌, min, max, unwrap_or}
+use Rattle.std.specs.Prelude.{◌≡◌, ◌≤◌, ◌<◌, ◌*◌, ◌-◌, ◌^◌, ◌⊎◌, ℕ, MatchOption, if◌then◌else◌, min, max}
+use Rattle.std.specs.Prelude.{unwrap_or}
 use Rattle.command_line.specs.Rules.{is_compact}
 use Rattle.command_line.specs.Valid.{IsFrom}
 use Rattle.command_line.specs.declared.outcome.Mode.{Mode}
@@ -32,8 +33,10 @@ most_nodes c = min 25 c.profile
 
 -- the sizes of a choice, for lines of so many slots: as given, and else the least that suffice
 pub record AreTableSizes (c : Choice) (slots lines : ℕ) (s : TableSizes) : Type 0 where
-  pub nodes : MatchOption c.nodes (IsLeastExponent 3 (most_nodes c) (node_need slots lines) s.nodes) (λ n. s.nodes ≡ n)
-  pub roots : MatchOption c.roots (IsLeastExponent (least_roots c) 24 (root_need c.mode lines) s.roots) (λ r. s.roots ≡ r)
+  pub nodes : MatchOption c.nodes (IsLeastExponent 3 (most_nodes c) (node_need slots lines) s.nodes)
+      (λ n. s.nodes ≡ n)
+  pub roots : MatchOption c.roots (IsLeastExponent (least_roots c) 24 (root_need c.mode lines) s.roots)
+      (λ r. s.roots ≡ r)
   pub region : s.region ≡ unwrap_or c.region (min s.roots 12)
   pub probe : s.probe ≡ c.probe
 

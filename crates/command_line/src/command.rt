@@ -2,7 +2,8 @@
 
 ghost use Rattle.std.specs.Prelude.{◌≡◌, IfOk, false, codes, fold};
 ghost use Rattle.clap.specs.Words.{app_of, rule_of, with_rule};
-ghost use Rattle.command_line.specs.Command.{bare, simple_command, bench_words, table_words, task_words, worker_words};
+ghost use Rattle.command_line.specs.Command.{bare, simple_command, bench_words, table_words, task_words};
+ghost use Rattle.command_line.specs.Command.{worker_words};
 ghost use Rattle.command_line.specs.Command as table;
 
 use clap::builder::ValueParser;

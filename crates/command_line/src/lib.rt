@@ -1,4 +1,5 @@
-//! The words of the command line: one simple command of `clap`, its fourteen values and its four further rules.
+//! The words of the command line: one simple command of `clap`, its fourteen values and its four further
+//! rules.
 #![tactic(auto)]
 
 mod command;

@@ -3,7 +3,8 @@
 ghost use Rattle.std.specs.Prelude.{◌≡◌, ◌<◌, ◌^◌, IfSome, codes, option_map};
 ghost use Rattle.std.specs.Option.{ForSome};
 ghost use Rattle.command_line.specs.Choose.{bench_of, choice_of, given, is_given, job_named, mode_named};
-ghost use Rattle.command_line.specs.Choose.{number_in, profile_named, size_in, tables_of, task_of, workers_of};
+ghost use Rattle.command_line.specs.Choose.{number_in, profile_named, size_in, tables_of, task_of};
+ghost use Rattle.command_line.specs.Choose.{workers_of};
 ghost use Rattle.command_line.specs.Matches.{value_in};
 ghost use Rattle.command_line.specs.Valid.{IsFrom, IsInRange, IsProfile};
 

@@ -3,7 +3,8 @@
 ghost use Rattle.std.specs.Prelude.{◌≡◌, true};
 ghost use Rattle.std.specs.Bool.{OnTrue};
 ghost use Rattle.command_line.specs.Rules.{is_at_most, job_allows, keeps_rules, mode_allows};
-ghost use Rattle.command_line.specs.Rules.{nodes_fit_profile, region_fits_roots, roots_hold_a_region, trace_is_small};
+ghost use Rattle.command_line.specs.Rules.{nodes_fit_profile, region_fits_roots, roots_hold_a_region};
+ghost use Rattle.command_line.specs.Rules.{trace_is_small};
 ghost use Rattle.command_line.specs.Valid.{FitsTogether};
 
 use crate::outcome::{Choice, Job, Mode};

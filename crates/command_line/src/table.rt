@@ -1,7 +1,8 @@
 //! The sizes of the tables, as chosen or automatic.
 
 ghost use Rattle.std.specs.Prelude.{◌≡◌, ◌≤◌, ◌*◌, ◌^◌, MatchOption, None};
-ghost use Rattle.command_line.specs.Sizes.{AreInRange, AreTableSizes, IsLeastExponent, least_roots, most_nodes};
+ghost use Rattle.command_line.specs.Sizes.{AreInRange, AreTableSizes, IsLeastExponent, least_roots};
+ghost use Rattle.command_line.specs.Sizes.{most_nodes};
 ghost use Rattle.command_line.specs.Sizes.{node_need, root_need};
 ghost use Rattle.command_line.specs.Valid.{IsValid};
 
@@ -77,11 +78,13 @@ pub fn sizes(choice: &Choice, slots: usize, lines: u64) -> TableSizes
     // What the automatic sizes are enough for.
     ensures enough_nodes { choice.now.nodes ≡ None → node_need slots lines ≤ 2 ^ most_nodes choice.now
         → node_need slots lines ≤ 2 ^ result.nodes }
-    ensures enough_nodes_for_input { choice.now.nodes ≡ None → 25 ≤ choice.now.profile → slots * lines ≤ 2 ^ 25
+    ensures enough_nodes_for_input { choice.now.nodes ≡ None → 25 ≤ choice.now.profile
+        → slots * lines ≤ 2 ^ 25
         → node_need slots lines ≤ 2 ^ result.nodes }
     ensures enough_plain_roots { choice.now.roots ≡ None → choice.now.mode ≡ Mode.Plain → lines ≤ 2 ^ 24
         → lines ≤ 2 ^ result.roots }
-    ensures enough_compact_roots { choice.now.roots ≡ None → choice.now.mode ≡ Mode.Compact → 2 * lines ≤ 2 ^ 24
+    ensures enough_compact_roots { choice.now.roots ≡ None → choice.now.mode ≡ Mode.Compact
+        → 2 * lines ≤ 2 ^ 24
         → 2 * lines ≤ 2 ^ result.roots }
 {
     let nodes = node_size(choice, slots, lines);

@@ -7,8 +7,8 @@ use crate::{Choice, ChoiceError, Job, Mode, USAGE, choose, sizes};
 use std::alloc::{AllocError, Global};
 use std::test::Fail;
 
-// The names of a choice's values, and those that `insert` alone chooses: a word by its place among the words that stand
-// there, from 0, and a size that isn't given as 0.
+// The names of a choice's values, and those that `insert` alone chooses: a word by its place among the words
+// that stand there, from 0, and a size that isn't given as 0.
 const NAMES: &str =
     "job mode profile workers block nodes roots region probe stats lines slots values seed";
 

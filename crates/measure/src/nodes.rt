@@ -104,8 +104,8 @@ fn split_callers(
     Ok(callers)
 }
 
-/// Makes a table of `2^exponent` buckets, and prints how long that took; then so many threads put pairs into a
-/// table, and each looks all of them up.
+/// Makes a table of `2^exponent` buckets, and prints how long that took; then so many threads put pairs into
+/// a table, and each looks all of them up.
 pub fn time<H: Threads + Sync>(
     rt: &HostRuntime,
     crew: &H,
@@ -152,8 +152,8 @@ fn sizes_of(nodes: u32) -> Sizes
     }
 }
 
-// Microseconds for the pairs put by the threads together, and for all of them looked up by each; and for how many
-// of these the table was full.
+// Microseconds for the pairs put by the threads together, and for all of them looked up by each; and for how
+// many of these the table was full.
 fn time_pairs<H: Threads + Sync>(
     rt: &HostRuntime,
     crew: &H,

@@ -158,8 +158,8 @@ fn time_calls(
     })
 }
 
-/// Regions of `2^exponent` cells of 42 bits, filled to so many percent of their keys, each so many times: prints
-/// the nanoseconds of all calls.
+/// Regions of `2^exponent` cells of 42 bits, filled to so many percent of their keys, each so many times:
+/// prints the nanoseconds of all calls.
 pub fn time(rt: &HostRuntime, exponent: u32, percent: u64, rounds: u64) -> io::Result<ExitCode>
     requires sizes { (6 ≤ exponent) × (exponent ≤ 12) }
     requires percent { percent ≤ 100 }
@@ -185,7 +185,8 @@ fn time_rounds(
     rounds: u64,
 ) -> io::Result<Times>
     requires words { length words.old ≡ word_count region.now }
-    requires sizes { (cells ≡ region.now.cells) × (0 < cells) × (cells ≤ 4096) × (2 ^ 32 ≤ 2 ^ region.now.quotient) }
+    requires sizes { (cells ≡ region.now.cells) × (0 < cells) × (cells ≤ 4096)
+        × (2 ^ 32 ≤ 2 ^ region.now.quotient) }
     requires percent { percent ≤ 100 }
 {
     let mut times = Times {

@@ -6,7 +6,8 @@ ghost use Rattle.std.specs.Prelude.{◌≤◌, IfSome};
 pub const USAGE: &str =
     "usage: measure read-trace [TRIES] | nodes [D [THREADS]] | region [S [FILL [ROUNDS]]]";
 
-/// The number that the word at this place writes, from `low` to `high`; `otherwise`, where no word stands there.
+/// The number that the word at this place writes, from `low` to `high`; `otherwise`, where no word stands
+/// there.
 pub fn number(words: &[String], place: usize, low: u64, high: u64, otherwise: u64) -> Option<u64>
     requires { (low ≤ otherwise) × (otherwise ≤ high) }
     ensures { IfSome result (λ number. (low ≤ number) × (number ≤ high)) }

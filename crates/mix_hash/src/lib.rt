@@ -1,8 +1,8 @@
 //! An invertible hash of packed pairs, and the cut of a hash into a region, a home and a quotient.
 //!
-//! A pair of two parts of `W` bits is packed into one number of `2 * W` bits. `mix` maps these numbers one to one
-//! onto themselves, so a table may keep a part of the hash in place of the pair (Cleary 1984: the home is told by
-//! where an entry stands, and only the quotient is stored).
+//! A pair of two parts of `W` bits is packed into one number of `2 * W` bits. `mix` maps these numbers one to
+//! one onto themselves, so a table may keep a part of the hash in place of the pair (Cleary 1984: the home is
+//! told by where an entry stands, and only the quotient is stored).
 #![tactic(auto)]
 
 ghost use Rattle.std.specs.Prelude.{◌≡◌, ℕ, ◌+◌, ◌-◌, ◌*◌, ◌/◌, ◌%◌, ◌^◌, ◌<◌, ◌≤◌};
@@ -45,10 +45,11 @@ fn scale<const W: u32>(x: u64, multiplier: u64) -> u64
     low_bits(x.wrapping_mul(multiplier), 2 * W)
 }
 
-/// The hash of a packed pair whose parts have `W` bits each, `1 <= W <= 31`: a number of `2 * W` bits, as `x` is.
+/// The hash of a packed pair whose parts have `W` bits each, `1 <= W <= 31`: a number of `2 * W` bits, as `x`
+/// is.
 ///
-/// No two numbers have one hash, and `unmix` goes back. It costs two products, three shifts, three xors, and a mask
-/// after each product, since the shift that follows must see no bit from above.
+/// No two numbers have one hash, and `unmix` goes back. It costs two products, three shifts, three xors, and
+/// a mask after each product, since the shift that follows must see no bit from above.
 #[inline]
 pub fn mix<const W: u32>(x: u64) -> u64
     requires width { (1 ≤ W) × (W ≤ 31) }
@@ -77,8 +78,8 @@ pub fn unmix<const W: u32>(h: u64) -> u64
     fold::<W>(scale::<W>(x, FIRST_INVERSE))
 }
 
-/// The law of the hash, for callers' proofs: it maps the numbers of `2 * W` bits one to one onto themselves. Running
-/// it does nothing.
+/// The law of the hash, for callers' proofs: it maps the numbers of `2 * W` bits one to one onto themselves.
+/// Running it does nothing.
 #[inline]
 pub fn mix_is_one_to_one<const W: u32>()
     requires { (1 ≤ W) × (W ≤ 31) }

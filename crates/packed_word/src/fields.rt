@@ -6,8 +6,8 @@ ghost use Rattle.packed_word.specs.Slice.{bit, field, IsApart};
 
 use crate::words::ones;
 
-/// Bit fields in a slice of words. The bits are counted through the slice, 64 a word, and a field is the number of the
-/// bits from its place on, the first of them its least.
+/// Bit fields in a slice of words. The bits are counted through the slice, 64 a word, and a field is the
+/// number of the bits from its place on, the first of them its least.
 pub struct Bits;
 
 // The word with `width` bits from `offset` on replaced by the value's.
@@ -43,8 +43,8 @@ impl Bits {
         }
     }
 
-    /// Writes the value, which fits `width` bits, into the field of `width` bits, from 1 to 64, from bit `at` on, which lies
-    /// within the slice. All other bits stay.
+    /// Writes the value, which fits `width` bits, into the field of `width` bits, from 1 to 64, from bit `at`
+    /// on, which lies within the slice. All other bits stay.
     #[inline]
     pub fn put(words: &mut [u64], at: u64, width: u32, value: u64)
         requires width { (1 ≤ width) × (width ≤ 64) }

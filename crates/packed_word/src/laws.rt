@@ -1,5 +1,7 @@
 //! The laws of words and of fields, each as the contract of a function that does nothing.
-ghost use Rattle.packed_word.specs.Laws.{SetsFlag, ClearsFlag, WordHasParts, PartsMakeWord, PairIsLowest, SetsFlagOfWord, ClearsFlagOfWord, FlagIsBit, SetsBit, ClearsBit, FieldFits, FieldHasBits};
+ghost use Rattle.packed_word.specs.Laws.{SetsFlag, ClearsFlag, WordHasParts, PartsMakeWord, PairIsLowest};
+ghost use Rattle.packed_word.specs.Laws.{SetsFlagOfWord, ClearsFlagOfWord, FlagIsBit, SetsBit, ClearsBit};
+ghost use Rattle.packed_word.specs.Laws.{FieldFits, FieldHasBits};
 
 /// `word | flag_mask(b)` sets flag `b` alone, and `word & !flag_mask(b)` clears it alone.
 pub fn flags_change_alone()
@@ -7,8 +9,8 @@ pub fn flags_change_alone()
     ensures clears { ClearsFlag }
 {}
 
-/// The number `2^63 + f * 2^(2W) + p` is the present word of the pair `p` with the flags `f`, and a flag that is set or cleared
-/// makes it the word of this pair and the number with this bit set or cleared.
+/// The number `2^63 + f * 2^(2W) + p` is the present word of the pair `p` with the flags `f`, and a flag that
+/// is set or cleared makes it the word of this pair and the number with this bit set or cleared.
 pub fn words_are_numbers()
     ensures parts { WordHasParts }
     ensures whole { PartsMakeWord }

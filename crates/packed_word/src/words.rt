@@ -7,9 +7,10 @@ ghost use Rattle.packed_word.specs.Word.{IsLayout, right_of, left_of, flags_of, 
 // The present bit.
 const PRESENT: u64 = 1 << 63;
 
-/// A pair of two parts of `W` bits in one word, as the buckets of a table of pairs have it: from the least bit up the right
-/// part, the left part and `F` flags, and at bit 63 the present bit. All other bits are 0, and an empty bucket is the word 0.
-/// A layout has a `W` from 1 to 31 and an `F` of at least 1 with `2W + F` at most 63, as `(16, 8)`, `(28, 7)` and `(31, 1)`.
+/// A pair of two parts of `W` bits in one word, as the buckets of a table of pairs have it: from the least
+/// bit up the right part, the left part and `F` flags, and at bit 63 the present bit. All other bits are 0,
+/// and an empty bucket is the word 0. A layout has a `W` from 1 to 31 and an `F` of at least 1 with `2W + F`
+/// at most 63, as `(16, 8)`, `(28, 7)` and `(31, 1)`.
 pub struct Layout<const W: u32, const F: u32>;
 
 // The number whose bits below `width` are set.
@@ -74,8 +75,8 @@ impl<const W: u32, const F: u32> Layout<W, F> {
         Self::without_flags(word) == Self::pack(left, right)
     }
 
-    /// The word whose only set bit is that of flag `b`, which is below `F`. `word | flag_mask(b)` sets the flag of a word, and
-    /// `word & !flag_mask(b)` clears it.
+    /// The word whose only set bit is that of flag `b`, which is below `F`. `word | flag_mask(b)` sets the
+    /// flag of a word, and `word & !flag_mask(b)` clears it.
     #[inline]
     pub fn flag_mask(b: u32) -> u64
         requires layout { IsLayout W F }

@@ -19,7 +19,13 @@ pub record IsNodeWord (about : About) (word : ℕ) : Type 0 where
 
 -- the course of a walk along a node's path
 abbrev pub course_of : About → ℕ → Course
-course_of about word = record { pair = pair_of_word word; d = about.sizes.nodes; lines = walked_lines about.sizes.nodes about.sizes.probe }
+course_of about word =
+    record {
+      pair = pair_of_word word;
+      d = about.sizes.nodes;
+      lines =
+          walked_lines about.sizes.nodes about.sizes.probe;
+    }
 
 module _ {T : Type 0} where
   -- the first `count` buckets of the pair's path are known to have other pairs
@@ -35,7 +41,8 @@ module _ {T : Type 0} where
   -- the same, but the pair at the index may be one that it put there, where it knew none
   pub record PutAt (index probes : ℕ) (old new : View T) : Type 0 where
     pub grown : Grown old new
-    pub made : (new.made ≡ old.made) ⊎ ((new.made ≡ index ∷ old.made) × ((pair : ℕ) → Has (index, pair) old.known → ⊥))
+    pub made : (new.made ≡ old.made) ⊎
+        ((new.made ≡ index ∷ old.made) × ((pair : ℕ) → Has (index, pair) old.known → ⊥))
     pub probes_are : new.probes ≡ old.probes + probes
 
   -- so many probes began; the last one has met `count` buckets, all with other pairs

@@ -21,7 +21,9 @@ module _ {T : Type 0} (part : Part T) (store : Store) where
   -- the pair's vector was named by one call, or its name was found
   pub record RootPut (pair id : ℕ) (fresh : Bool) (old new : PassOf T) : Type 0 where
     pub rest : AtRest part store new
-    pub entry : (vector : Vector) → RootStands store.about.width store.about.slots (view old).known pair vector → length vector ≡ store.about.slots
+    pub entry : (vector : Vector)
+        → RootStands store.about.width store.about.slots (view old).known pair vector
+        → length vector ≡ store.about.slots
         → Caught part (call (view old).number fresh vector id ∷ []) (view old) (view new)
     pub root : Has (id, pair) (root_pairs part (view new))
     pub buffers : KeepsBuffers old new
@@ -55,11 +57,15 @@ module _ {T : Type 0} (part : Part T) (store : Store) where
     pub no_call : Caught part [] (view old) (view new)
     pub buffers : new ≡ record old { seat = new.seat }
 
--- What a refusal is good for, whoever is refused: there is no place later either, and the root's vector has no name in any history that is seen later.
+-- What a refusal is good for, whoever is refused: there is no place later either, and the root's vector has
+-- no name in any history that is seen later.
 pub record Refusals {T : Type 0} (part : Part T) : Type 0 where
   pub stay : (store : Store) (p q : PassOf T) (pair : ℕ) → AtRest part store p → AtRest part store q
       → IsPart (view p).known (view q).known → IsPart (root_pairs part (view p)) (root_pairs part (view q))
-      → part.is_full store.about (root_pairs part (view p)) pair → part.is_full store.about (root_pairs part (view q)) pair
-  pub for_good : (store : Store) (p q : PassOf T) (pair : ℕ) (v : Vector) → AtRest part store p → AtRest part store q
+      → part.is_full store.about (root_pairs part (view p)) pair
+      → part.is_full store.about (root_pairs part (view q)) pair
+  pub for_good : (store : Store) (p q : PassOf T) (pair : ℕ) (v : Vector) → AtRest part store p
+      → AtRest part store q
       → IsPart (view p).known (view q).known → IsPart (root_pairs part (view p)) (root_pairs part (view q))
-      → RootStands store.about.width store.about.slots (view p).known pair v → part.is_full store.about (root_pairs part (view p)) pair → name_of (view q).seen v ≡ None
+      → RootStands store.about.width store.about.slots (view p).known pair v
+      → part.is_full store.about (root_pairs part (view p)) pair → name_of (view q).seen v ≡ None

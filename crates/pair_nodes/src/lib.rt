@@ -1,4 +1,5 @@
-//! Pairs that each stand once in the shared table: find or put a node, without a lock (after Laarman, van de Pol and Weber 2010).
+//! Pairs that each stand once in the shared table: find or put a node, without a lock (after Laarman, van de
+//! Pol and Weber 2010).
 #![tactic(auto)]
 
 mod nodes;

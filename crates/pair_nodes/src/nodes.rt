@@ -54,10 +54,11 @@ impl<R: RootPart<W, F>, const W: u32, const F: u32> Nodes<R, W, F> {
         &self.table
     }
 
-    /// The index of a pair of parts below `2^W`, for good: that of the bucket of its path that has it, or which now gets it.
+    /// The index of a pair of parts below `2^W`, for good: that of the bucket of its path that has it, or
+    /// which now gets it.
     ///
-    /// Ticks once and begins one probe. Neither waits nor takes memory. `NodesFull`: each bucket of the pair's whole path has another pair; names and calls
-    /// are as before.
+    /// Ticks once and begins one probe. Neither waits nor takes memory. `NodesFull`: each bucket of the
+    /// pair's whole path has another pair; names and calls are as before.
     pub fn find_or_put<L: Ledger>(
         &self,
         pass: &mut Pass<R, W, F>,
@@ -71,9 +72,12 @@ impl<R: RootPart<W, F>, const W: u32, const F: u32> Nodes<R, W, F> {
         ensures rest { AtRest R.part self.now pass.new }
         ensures tree { KeepsTree pass.old pass.new }
         ensures tick { L.count steps.new ≡ option_map counted (L.count steps.old) }
-        ensures known { IfOk result (λ index. Has (index, pair_of self.now.about.width left right) (view pass.new).known) }
+        ensures known { IfOk result
+            (λ index. Has (index, pair_of self.now.about.width left right) (view pass.new).known) }
         ensures put { IfOk result (λ index. PutAt index 1 (view pass.old) (view pass.new)) }
-        ensures full { OnErr result (Blocked (node_buckets self.now.about) (view pass.new).known (pair_of self.now.about.width left right)) }
+        ensures full { OnErr result
+            (Blocked (node_buckets self.now.about) (view pass.new).known
+            (pair_of self.now.about.width left right)) }
         ensures full_puts_none { OnErr result (Probed 1 (view pass.old) (view pass.new)) }
     {
         steps.tick();

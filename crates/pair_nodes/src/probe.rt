@@ -4,14 +4,16 @@ ghost use Rattle.tree_shape.specs.Tree.{Has};
 ghost use Rattle.pair_rule.specs.Paths.{node_buckets, size, bucket, reach};
 ghost use Rattle.pair_rule.specs.Plays.{IsWord};
 ghost use Rattle.pair_rule.specs.Rest.{AtRest, view};
-ghost use Rattle.pair_nodes.specs.Probe.{pair_of_word, IsNodeWord, course_of, HasPassed, Underway, Ended, KeepsTree};
+ghost use Rattle.pair_nodes.specs.Probe.{pair_of_word, IsNodeWord, course_of, HasPassed, Underway, Ended};
+ghost use Rattle.pair_nodes.specs.Probe.{KeepsTree};
 
 use crate::steps::{begin, look, put};
 use pair_rule::{PairTable, Pass, RootPart};
 use probe_path::{Path, Walk};
 
-// What the word that was found in the bucket `at` means: its pair is the wanted one, or another; or the bucket is empty, and gets the wanted one, unless it
-// got a pair between. Answers the bucket, if the wanted pair is there.
+// What the word that was found in the bucket `at` means: its pair is the wanted one, or another; or the
+// bucket is empty, and gets the wanted one, unless it got a pair between. Answers the bucket, if the wanted
+// pair is there.
 #[inline]
 fn settle<R: RootPart<W, F>, const W: u32, const F: u32>(
     table: &PairTable<R, W, F>,
@@ -23,12 +25,17 @@ fn settle<R: RootPart<W, F>, const W: u32, const F: u32>(
     requires rest { AtRest R.part table.now pass.old }
     requires word { IsNodeWord table.now.about word }
     requires inside { at < size (node_buckets table.now.about) }
-    requires on_path { (step : ℕ) × (step < reach (node_buckets table.now.about)) × (bucket (node_buckets table.now.about) (pair_of_word word) step ≡ at) × HasPassed (view pass.old) (pair_of_word word) step }
-    requires found { IsWord table.now.about found × (found ≢ 0 → Has (at, pair_of_word found) (view pass.old).known) }
+    requires on_path { (step : ℕ) × (step < reach (node_buckets table.now.about))
+        × (bucket (node_buckets table.now.about) (pair_of_word word) step ≡ at)
+        × HasPassed (view pass.old) (pair_of_word word) step }
+    requires found { IsWord table.now.about found
+        × (found ≢ 0 → Has (at, pair_of_word found) (view pass.old).known) }
     requires probing { (view pass.old).probing ≡ true }
     ensures rest { AtRest R.part table.now pass.new }
     ensures tree { KeepsTree pass.old pass.new }
-    ensures told { MatchOption result ((step : ℕ) → bucket (node_buckets table.now.about) (pair_of_word word) step ≡ at → HasPassed (view pass.old) (pair_of_word word) step
+    ensures told { MatchOption result
+        ((step : ℕ) → bucket (node_buckets table.now.about) (pair_of_word word) step ≡ at
+        → HasPassed (view pass.old) (pair_of_word word) step
         → Underway (pair_of_word word) (step + 1) 0 (view pass.old) (view pass.new))
         (λ index. Ended (pair_of_word word) index 0 (view pass.old) (view pass.new)) }
 {
@@ -58,13 +65,15 @@ fn look_along<R: RootPart<W, F>, const W: u32, const F: u32>(
     requires rest { AtRest R.part table.now pass.old }
     requires word { IsNodeWord table.now.about word }
     requires width { table.now.about.width ≡ W }
-    requires walk { (walk.now.course ≡ course_of table.now.about word) × (walk.now.passed < walk.now.course.lines) }
+    requires walk { (walk.now.course ≡ course_of table.now.about word)
+        × (walk.now.passed < walk.now.course.lines) }
     requires from { from ≤ 8 }
     requires passed { HasPassed (view pass.old) (pair_of_word word) (8 * walk.now.passed + from) }
     requires probing { (view pass.old).probing ≡ true }
     ensures rest { AtRest R.part table.now pass.new }
     ensures tree { KeepsTree pass.old pass.new }
-    ensures told { MatchOption result (Underway (pair_of_word word) (8 * walk.now.passed + 8) 0 (view pass.old) (view pass.new))
+    ensures told { MatchOption result
+        (Underway (pair_of_word word) (8 * walk.now.passed + 8) 0 (view pass.old) (view pass.new))
         (λ index. Ended (pair_of_word word) index 0 (view pass.old) (view pass.new)) }
 {
     for i in from..8 {
@@ -88,7 +97,8 @@ fn look_first<R: RootPart<W, F>, const W: u32, const F: u32>(
     requires rest { AtRest R.part table.now pass.old }
     requires word { IsNodeWord table.now.about word }
     requires width { table.now.about.width ≡ W }
-    requires walk { (walk.now.course ≡ course_of table.now.about word) × (walk.now.passed ≡ 0) × (0 < walk.now.course.lines) }
+    requires walk { (walk.now.course ≡ course_of table.now.about word) × (walk.now.passed ≡ 0)
+        × (0 < walk.now.course.lines) }
     ensures rest { AtRest R.part table.now pass.new }
     ensures tree { KeepsTree pass.old pass.new }
     ensures told { MatchOption result (Underway (pair_of_word word) 1 1 (view pass.old) (view pass.new))
@@ -110,7 +120,8 @@ fn look_along_first<R: RootPart<W, F>, const W: u32, const F: u32>(
     requires rest { AtRest R.part table.now pass.old }
     requires word { IsNodeWord table.now.about word }
     requires width { table.now.about.width ≡ W }
-    requires walk { (walk.now.course ≡ course_of table.now.about word) × (walk.now.passed ≡ 0) × (0 < walk.now.course.lines) }
+    requires walk { (walk.now.course ≡ course_of table.now.about word) × (walk.now.passed ≡ 0)
+        × (0 < walk.now.course.lines) }
     ensures rest { AtRest R.part table.now pass.new }
     ensures tree { KeepsTree pass.old pass.new }
     ensures told { MatchOption result (Underway (pair_of_word word) 8 1 (view pass.old) (view pass.new))
@@ -136,7 +147,9 @@ pub(crate) fn probe<R: RootPart<W, F>, const W: u32, const F: u32>(
     requires path { path.now ≡ course_of table.now.about word }
     ensures rest { AtRest R.part table.now pass.new }
     ensures tree { KeepsTree pass.old pass.new }
-    ensures told { MatchOption result (Underway (pair_of_word word) (reach (node_buckets table.now.about)) 1 (view pass.old) (view pass.new))
+    ensures told { MatchOption result
+        (Underway (pair_of_word word) (reach (node_buckets table.now.about)) 1 (view pass.old)
+        (view pass.new))
         (λ index. Ended (pair_of_word word) index 1 (view pass.old) (view pass.new)) }
 {
     let mut walk = path.walk();

@@ -20,7 +20,8 @@ pub trait RootTable<const W: u32, const F: u32> {
     /// The store whose roots these are.
     ghost store: { Self → Store };
 
-    /// Gives the vector with the root `(left, right)` a name, or finds its name: its identifier, and whether it is new.
+    /// Gives the vector with the root `(left, right)` a name, or finds its name: its identifier, and whether
+    /// it is new.
     fn put<L: Ledger>(
         &self,
         pass: &mut Pass<Self::Part, W, F>,

@@ -48,7 +48,8 @@ pub(crate) fn begin<R: RootPart<W, F>, const W: u32, const F: u32>(
     shared.load::<Begin<R, W, F>>(&mut pass.seat, at as usize + 1)
 }
 
-// Puts the word of a pair into the bucket `at`, the one of this step of the pair's path, if it is empty; answers the word that was there.
+// Puts the word of a pair into the bucket `at`, the one of this step of the pair's path, if it is empty;
+// answers the word that was there.
 #[inline]
 pub(crate) fn put<R: RootPart<W, F>, const W: u32, const F: u32>(
     table: &PairTable<R, W, F>,
@@ -57,9 +58,12 @@ pub(crate) fn put<R: RootPart<W, F>, const W: u32, const F: u32>(
     word: u64,
 ) -> u64
     requires rest { AtRest R.part table.now pass.old }
-    requires pair { let pair = pair_of_word word in (word ≡ node_word pair) × IsPair (node_buckets table.now.about) pair }
+    requires pair { let pair = pair_of_word word in (word ≡ node_word pair)
+        × IsPair (node_buckets table.now.about) pair }
     requires inside { at < size (node_buckets table.now.about) }
-    requires passed { (step : ℕ) × (step < reach (node_buckets table.now.about)) × (bucket (node_buckets table.now.about) (pair_of_word word) step ≡ at) × HasPassed (view pass.old) (pair_of_word word) step }
+    requires passed { (step : ℕ) × (step < reach (node_buckets table.now.about))
+        × (bucket (node_buckets table.now.about) (pair_of_word word) step ≡ at)
+        × HasPassed (view pass.old) (pair_of_word word) step }
     requires probing { (view pass.old).probing ≡ true }
     ensures rest { AtRest R.part table.now pass.new }
     ensures won { result ≡ 0 → view pass.new ≡ published at (pair_of_word word) (view pass.old) }

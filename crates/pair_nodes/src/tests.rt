@@ -196,7 +196,8 @@ fn ticks_when_full(rt: HostRuntime) -> Result<(), Fail> {
     Ok(())
 }
 
-// So many callers put so many pairs at once into a table of these sizes: all are answered alike, and the table has as many pairs as it has room for.
+// So many callers put so many pairs at once into a table of these sizes: all are answered alike, and the
+// table has as many pairs as it has room for.
 fn compare<H: Threads + Abort + Sync>(
     rt: &H,
     alloc: Global,

@@ -18,7 +18,8 @@ IsNoName id h = (v : Vector) → name_of h v ≢ Some id
 
 -- the pair is the root of some vector of the store's slots
 abbrev pub IsSomeRoot : About → List (ℕ × ℕ) → ℕ → Type 0
-IsSomeRoot about known pair = (vector : Vector) × RootStands about.width about.slots known pair vector × (length vector ≡ about.slots)
+IsSomeRoot about known pair = (vector : Vector) × RootStands about.width about.slots known pair vector
+    × (length vector ≡ about.slots)
 
 module _ {T : Type 0} where
   -- w is v after it caught up and then called on the vector with this identifier, whose root is this pair

@@ -34,7 +34,8 @@ pub record Part (T : Type 0) : Type 1 where
 abbrev pub root_pairs : {T : Type 0} → Part T → View T → List (ℕ × ℕ)
 root_pairs part v = part.roots v.about v.seen v.root
 
--- a store's words are word 0, those of the nodes, and those of the roots; it is of this width and number of flags
+-- a store's words are word 0, those of the nodes, and those of the roots; it is of this width and number of
+-- flags
 pub record IsTable {T : Type 0} (width flags : ℕ) (part : Part T) (store : Store) : Type 0 where
   pub is_about : IsAbout part.sized part.count store.about
   pub width_is : store.about.width ≡ width

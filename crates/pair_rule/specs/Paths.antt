@@ -35,7 +35,8 @@ IsPair b pair = pair < 2 ^ (2 * b.width)
 
 -- the first `count` buckets of the pair's path have other pairs
 abbrev pub Passed : Buckets → (ℕ → ℕ → Type 0) → ℕ → ℕ → Type 0
-Passed b In pair count = (step : ℕ) → step < count → (other : ℕ) × In (bucket b pair step) other × (other ≢ pair)
+Passed b In pair count = (step : ℕ) → step < count
+    → (other : ℕ) × In (bucket b pair step) other × (other ≢ pair)
 
 -- the bucket i is on the pair's path, and all earlier buckets of the path have other pairs
 pub record OnPath (b : Buckets) (In : ℕ → ℕ → Type 0) (i pair : ℕ) : Type 0 where

@@ -32,10 +32,12 @@ module _ {S T : Type 0} (part : Part T) where
   abbrev pub begin_tells : Step S → Me S (View T) → ℕ → Me S (View T) → Type 0
   begin_tells st m n m' = (m'.0 ≡ begun (st.word - 1) n m.0) × Found st m n m'
 
-  -- a node's bucket is exchanged, in a probe that is under way: it was empty and now has the pair, or it is as it was
+  -- a node's bucket is exchanged, in a probe that is under way: it was empty and now has the pair, or it is
+  -- as it was
   abbrev pub put_tells : Step S → Me S (View T) → ℕ → Me S (View T) → Type 0
   put_tells st m n m' =
-      (m.0.probing ≡ true) × (n ≡ 0 → m'.0 ≡ published (st.word - 1) (st.second - 9223372036854775808) m.0) × (n ≢ 0 → m'.0 ≡ learned (st.word - 1) n m.0) × Found st m n m'
+      (m.0.probing ≡ true) × (n ≡ 0 → m'.0 ≡ published (st.word - 1) (st.second - 9223372036854775808) m.0)
+      × (n ≢ 0 → m'.0 ≡ learned (st.word - 1) n m.0) × Found st m n m'
 
   -- word 0 is loaded after two views were joined
   pub record JoinTold (st : Step S) (m m' : Me S (View T)) : Type 0 where

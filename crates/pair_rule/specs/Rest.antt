@@ -1,5 +1,6 @@
 -- What is known of a pass by itself, between two steps and between two calls.
-use Rattle.std.specs.Prelude.{◌≡◌, ℕ, ◌+◌, ◌*◌, ◌^◌, ◌<◌, ◌≤◌, ◌&&◌, List, [], true, false, Option, Some, None, drop, length, slice_index, count_by, if◌then◌else◌}
+use Rattle.std.specs.Prelude.{◌≡◌, ℕ, ◌+◌, ◌*◌, ◌^◌, ◌<◌, ◌≤◌, ◌&&◌, List, [], true, false, Option, Some}
+use Rattle.std.specs.Prelude.{None, drop, length, slice_index, count_by, if◌then◌else◌}
 use Rattle.std.specs.List.{list_any}
 use Rattle.std.specs.Prelude.{◌==◌}
 use Rattle.atomic_table.specs.declared.shared.Seat.{Seat}
@@ -19,15 +20,19 @@ use Rattle.pair_rule.specs.Rule.{Named, open_probes}
 -- the nodes are a naming of pairs: each index is a bucket's number and lies on its pair's path
 pub record AreNodes (about : About) (known : List (ℕ × ℕ)) : Type 0 where
   pub naming : IsNaming known
-  pub inside : (i pair : ℕ) → Has (i, pair) known → (i < size (node_buckets about)) × IsPair (node_buckets about) pair
-  pub on_path : (i pair : ℕ) → Has (i, pair) known → (step : ℕ) × (step < reach (node_buckets about)) × (bucket (node_buckets about) pair step ≡ i)
+  pub inside : (i pair : ℕ) → Has (i, pair) known
+      → (i < size (node_buckets about)) × IsPair (node_buckets about) pair
+  pub on_path : (i pair : ℕ) → Has (i, pair) known
+      → (step : ℕ) × (step < reach (node_buckets about)) × (bucket (node_buckets about) pair step ≡ i)
 
 -- each pair lies on its path, and on it each earlier bucket has another pair of the map
 abbrev pub FillsPaths : Buckets → List (ℕ × ℕ) → Type 0
 FillsPaths b map = (i pair : ℕ) → Has (i, pair) map → OnPath b (Listed map) i pair
 
--- The nodes, the root pairs by identifiers and the history of a whole store. `house` is what the root table's own form adds.
-pub record Housed (about : About) (house : List (ℕ × ℕ) → Type 0) (nodes roots : List (ℕ × ℕ)) (h : History) : Type 0 where
+-- The nodes, the root pairs by identifiers and the history of a whole store. `house` is what the root table's
+-- own form adds.
+pub record Housed (about : About) (house : List (ℕ × ℕ) → Type 0) (nodes roots : List (ℕ × ℕ))
+    (h : History) : Type 0 where
   pub are_nodes : AreNodes about nodes
   pub fills_paths : FillsPaths (node_buckets about) nodes
   pub legal : IsLegal about.flags h
@@ -39,7 +44,8 @@ abbrev pub names_of_callers : List ℕ → History → ℕ
 names_of_callers numbers h = count_by (λ e. is_fresh e.act && list_any (λ c. c == e.caller) numbers) h
 
 module _ {T : Type 0} where
-  -- a view of all passes that there are: it stands for the first pass, and for each that was split from one that it stands for
+  -- a view of all passes that there are: it stands for the first pass, and for each that was split from one
+  -- that it stands for
   pub record Whole (v : View T) : Type 0 where
     pub first : Has 0 v.numbers
     pub all : (c : ℕ) → Has c v.born → Has c v.numbers
@@ -60,8 +66,10 @@ module _ {T : Type 0} where
     pub probed : length v.made + open_probes v.probing ≤ v.probes
     pub mine : Has v.number v.numbers
     pub numbers_once : NoRepeats v.numbers
-    pub unborn : (n c : ℕ) → v.splits ≤ n → Descends (child v.number n) c → (Has c v.numbers → ⊥) × (Has c v.born → ⊥) × (calls v.seen c ≡ [])
-    pub olds : (o : Old) → Has o v.olds → Extends o.seen v.seen × ((c : ℕ) → Has c o.numbers → calls v.seen c ≡ calls o.seen c)
+    pub unborn : (n c : ℕ) → v.splits ≤ n → Descends (child v.number n) c
+        → (Has c v.numbers → ⊥) × (Has c v.born → ⊥) × (calls v.seen c ≡ [])
+    pub olds : (o : Old) → Has o v.olds
+        → Extends o.seen v.seen × ((c : ℕ) → Has c o.numbers → calls v.seen c ≡ calls o.seen c)
     pub whole : Whole v → HasAll part v.about v
     pub root_sound : part.sound v.about v
 
@@ -100,7 +108,9 @@ module _ {T : Type 0} where
     pub next_length : length p.next_tree.items ≡ 2 * store.about.slots
     pub marks_length : length p.marks.items ≡ store.about.slots
     pub last : p.has_last ≡ true → (position : ℕ) → 2 ≤ position → position < 2 * store.about.slots
-        → StandsFor store.about.width store.about.slots p.seat.me.0.known (drop store.about.slots p.last_tree.items) position (slice_index p.last_tree.items position)
-    pub last_slots : p.has_last ≡ true → (slot : ℕ) → slot < store.about.slots → slice_index p.last_tree.items (store.about.slots + slot) < 2 ^ store.about.width
+        → StandsFor store.about.width store.about.slots p.seat.me.0.known
+        (drop store.about.slots p.last_tree.items) position (slice_index p.last_tree.items position)
+    pub last_slots : p.has_last ≡ true → (slot : ℕ) → slot < store.about.slots
+        → slice_index p.last_tree.items (store.about.slots + slot) < 2 ^ store.about.width
     pub nodes_count : p.nodes_count ≡ length p.seat.me.0.made
     pub names_count : p.names_count ≡ names_of_callers p.seat.me.0.numbers p.seat.me.0.seen

@@ -9,14 +9,16 @@ use Rattle.pair_rule.specs.Rest.{AtRest, IsUnknown, KeepsCalls, view}
 use Rattle.pair_rule.specs.View.{parent_view, child_view, joined_view}
 
 module _ {T : Type 0} (part : Part T) where
-  -- the view has all that another had: it has seen its history, and has its calls, its nodes and its root pairs
+  -- the view has all that another had: it has seen its history, and has its calls, its nodes and its root
+  -- pairs
   pub record HasTaken (other now : View T) : Type 0 where
     pub seen : Extends other.seen now.seen
     pub calls : KeepsCalls other now
     pub known : IsPart other.known now.known
     pub roots : IsPart (root_pairs part other) (root_pairs part now)
 
-  -- a pass was split from another: it has seen what that one had, has no call of its own, no node, no probe and no tree, and a number that was nobody's
+  -- a pass was split from another: it has seen what that one had, has no call of its own, no node, no probe
+  -- and no tree, and a number that was nobody's
   pub record IsSplit (store : Store) (old now child : PassOf T) : Type 0 where
     pub rest : AtRest part store now
     pub child_rest : AtRest part store child
@@ -31,9 +33,15 @@ module _ {T : Type 0} (part : Part T) where
     pub rest : AtRest part store now
     pub view_is : view now ≡ joined_view part.join (view old) (view other)
     pub taken : HasTaken (view old) (view now) × HasTaken (view other) (view now)
-    pub others : now ≡ record old { seat = now.seat; nodes_count = old.nodes_count + other.nodes_count; names_count = old.names_count + other.names_count }
+    pub others : now ≡ record old {
+      seat = now.seat;
+      nodes_count =
+          old.nodes_count + other.nodes_count;
+      names_count = old.names_count + other.names_count;
+    }
 
-  -- one pass, the hearer, has taken what another had, the teller, which stays as it was but for one more split
+  -- one pass, the hearer, has taken what another had, the teller, which stays as it was but for one more
+  -- split
   pub record IsTold (store : Store) (teller hearer teller_now now : PassOf T) : Type 0 where
     pub teller_rest : AtRest part store teller_now
     pub rest : AtRest part store now

@@ -1,5 +1,6 @@
 -- How views change as passes are made, split and joined, and as nodes are met.
-use Rattle.std.specs.Prelude.{◌≡◌, ◌==◌, ℕ, suc, ◌+◌, ◌-◌, List, [], ◌∷◌, ◌++◌, true, false, if◌then◌else◌, nat_lt, length}
+use Rattle.std.specs.Prelude.{◌≡◌, ◌==◌, ℕ, suc, ◌+◌, ◌-◌, List, [], ◌∷◌, ◌++◌, true, false, if◌then◌else◌}
+use Rattle.std.specs.Prelude.{nat_lt, length}
 use Rattle.tree_shape.specs.Tree.{IsPart}
 use Rattle.tdb_base.specs.History.{History}
 use Rattle.pair_rule.specs.declared.view.View.{View}
@@ -101,7 +102,14 @@ module _ {T : Type 0} where
     live = false;
     busy = false;
     probing = false;
-    about = record { sizes = record { nodes = 0; roots = 0; region = 0; probe = 0 }; slots = 0; root_words = 0; width = 0; flags = 0 };
+    about = record {
+      sizes = record { nodes = 0; roots = 0; region = 0; probe = 0 };
+      slots = 0;
+      root_words =
+          0;
+      width = 0;
+      flags = 0;
+    };
     number = 0;
     splits = 0;
     numbers = [];

@@ -4,6 +4,7 @@
 #[derive(Clone, Copy, Debug, PartialEq, Eq)]
 pub struct NodesFull;
 
-/// The root table has no place for a root. What that says is told by the root part: in a plain table each bucket of the root's path has another one.
+/// The root table has no place for a root. What that says is told by the root part: in a plain table each
+/// bucket of the root's path has another one.
 #[derive(Clone, Copy, Debug, PartialEq, Eq)]
 pub struct RootsFull;

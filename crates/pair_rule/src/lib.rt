@@ -1,7 +1,9 @@
-//! The one table of shared words, and the rule that holds between any two atomic steps of any number of callers.
+//! The one table of shared words, and the rule that holds between any two atomic steps of any number of
+//! callers.
 //!
-//! Word 0 is kept for making, splitting and joining passes. Then follow the words of the nodes, each 0 or a pair of parts (after the hash table of Laarman,
-//! van de Pol and Weber 2010), and the words of a root table. What a root table adds to the rule is its `RootPart`.
+//! Word 0 is kept for making, splitting and joining passes. Then follow the words of the nodes, each 0 or a
+//! pair of parts (after the hash table of Laarman, van de Pol and Weber 2010), and the words of a root table.
+//! What a root table adds to the rule is its `RootPart`.
 #![tactic(auto)]
 
 mod full;

@@ -30,7 +30,7 @@ impl<const W: u32, const F: u32> RootPart<W, F> for NoRoot {
 
     ghost keeps_join = { λ about log ws views nodes id other v w kept at there apart idle rest fits fits_too. kept };
 
-    ghost starts = { λ about ws is_about long zero. refl };
+    ghost starts = { λ about ws width flags is_about long zero. refl };
 
     ghost sounds = { λ about log ws nodes views id v kept legal at fits live. nothing_seen log v.seen kept fits.seen };
 

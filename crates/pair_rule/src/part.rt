@@ -2,8 +2,8 @@
 
 use crate::sizes::Sizes;
 
-/// A table of roots, as far as the rule that is common to all of them goes. The laws are what the rule's proofs
-/// take from it.
+/// A table of roots, as far as the rule that is common to all of them goes. The laws are what the rule's
+/// proofs take from it.
 pub trait RootPart<const W: u32, const F: u32> {
     ghost use Rattle.std.specs.Prelude.{◌≡◌, ◌<◌, ◌^◌, ℕ, List, [], ◌∷◌, ◌++◌, slice_set, slice_index, length};
     ghost use Rattle.std.specs.Prelude.{true, false, ◌⊎◌};
@@ -62,7 +62,8 @@ pub trait RootPart<const W: u32, const F: u32> {
         → holds about log ws (slice_set (slice_set views id (joining_view part.join v w)) other (nobody spent)) };
 
     // It holds of a new table.
-    ghost starts: { (about : About) (ws : List ℕ) → IsAbout part.sized part.count about → length ws ≡ about.root_words
+    ghost starts: { (about : About) (ws : List ℕ) → about.width ≡ W → about.flags ≡ F
+        → IsAbout part.sized part.count about → length ws ≡ about.root_words
         → ((i : ℕ) → slice_index ws i ≡ 0) → holds about [] ws (newcomer (first about) about ∷ []) };
 
     // It tells of each pass's view,

@@ -7,9 +7,11 @@ use atomic_table::Seat;
 use std::alloc::Global;
 use tdb_base::NoMemory;
 
-/// A caller's token: a seat at a table, and the buffers that its calls use. What it knows of the table, its view, stands behind the seat and costs nothing.
+/// A caller's token: a seat at a table, and the buffers that its calls use. What it knows of the table, its
+/// view, stands behind the seat and costs nothing.
 ///
-/// The call that makes a pass takes its buffers, and no later call grows them. The fields are for the layers of the store alone.
+/// The call that makes a pass takes its buffers, and no later call grows them. The fields are for the layers
+/// of the store alone.
 pub struct PassOf<T> {
     pub seat: Seat<(), View<T>>,
     /// The values of the last tree by position, where it has one: twice as many as a vector has slots.
@@ -60,8 +62,8 @@ impl<T> PassOf<T> {
     }
 }
 
-// So many equal elements, and room for more that nobody uses. Threads write the buffers of their passes at each call: so no buffer shares a cache line with
-// what is allocated behind it, wherever that is.
+// So many equal elements, and room for more that nobody uses. Threads write the buffers of their passes at
+// each call: so no buffer shares a cache line with what is allocated behind it, wherever that is.
 fn set_apart<X: Copy>(alloc: Global, value: X, count: usize) -> Result<Vec<X>, NoMemory>
     requires { count ≤ 2048 }
     ensures { IfOk result (λ buffer. length buffer.items ≡ count) }
@@ -98,7 +100,16 @@ impl Buffers {
 
     // The pass with this seat and these buffers, which has no tree, and made and named nothing yet.
     pub(crate) fn with_seat<T>(self, seat: Seat<(), View<T>>) -> PassOf<T>
-        ensures { result ≡ record { seat = seat; last_tree = self.last_tree; next_tree = self.next_tree; marks = self.marks; has_last = false; nodes_count = 0; names_count = 0 } }
+        ensures { result ≡ record {
+          seat = seat;
+          last_tree = self.last_tree;
+          next_tree =
+              self.next_tree;
+          marks = self.marks;
+          has_last = false;
+          nodes_count = 0;
+          names_count = 0;
+        } }
     {
         PassOf {
             seat,

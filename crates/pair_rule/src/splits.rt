@@ -40,10 +40,11 @@ impl<R: RootPart<W, F>, const W: u32, const F: u32> PairTable<R, W, F> {
         shared.load::<AfterJoin<R, W, F>>(seat, 0);
     }
 
-    /// A further pass, which has seen what `pass` had, and has no call of its own, no node, no probe and no tree.
+    /// A further pass, which has seen what `pass` had, and has no call of its own, no node, no probe and no
+    /// tree.
     ///
-    /// Its number was none of `pass`'s before, nor of those that had been split from one of these, and nobody had
-    /// called under it. After `NoMemory` the pass is unchanged.
+    /// Its number was none of `pass`'s before, nor of those that had been split from one of these, and nobody
+    /// had called under it. After `NoMemory` the pass is unchanged.
     pub fn split(&self, alloc: Global, pass: &mut Pass<R, W, F>) -> Result<Pass<R, W, F>, NoMemory>
         requires { AtRest R.part self.now pass.old }
         ensures split { IfOk result (IsSplit R.part self.now pass.old pass.new) }
@@ -54,9 +55,9 @@ impl<R: RootPart<W, F>, const W: u32, const F: u32> PairTable<R, W, F> {
         Ok(buffers.with_seat(seat))
     }
 
-    /// `pass` takes in `other`: it has then seen the longer of both histories, of which each is a front; it keeps the
-    /// calls of both under their numbers, and has the nodes, the root pairs, the nodes made and the probes of both.
-    /// Its last tree stays.
+    /// `pass` takes in `other`: it has then seen the longer of both histories, of which each is a front; it
+    /// keeps the calls of both under their numbers, and has the nodes, the root pairs, the nodes made and the
+    /// probes of both. Its last tree stays.
     pub fn join(&self, pass: &mut Pass<R, W, F>, other: Pass<R, W, F>)
         requires pass { AtRest R.part self.now pass.old }
         requires other { AtRest R.part self.now other }
@@ -69,8 +70,8 @@ impl<R: RootPart<W, F>, const W: u32, const F: u32> PairTable<R, W, F> {
         pass.names_count += names;
     }
 
-    /// `hearer` has then seen at least what `teller` had: a seat is split from the teller's and joined into the
-    /// hearer's, without buffers.
+    /// `hearer` has then seen at least what `teller` had: a seat is split from the teller's and joined into
+    /// the hearer's, without buffers.
     pub fn meet(&self, teller: &mut Pass<R, W, F>, hearer: &mut Pass<R, W, F>)
         requires teller { AtRest R.part self.now teller.old }
         requires hearer { AtRest R.part self.now hearer.old }

@@ -52,8 +52,8 @@ fn bucket_count(nodes: u32) -> usize
 }
 
 impl<R: RootPart<W, F>, const W: u32, const F: u32> PairTable<R, W, F> {
-    /// A table of these sizes for vectors of `slots` slots, in which no pair stands and nobody called, and its first
-    /// pass, which has the number 0.
+    /// A table of these sizes for vectors of `slots` slots, in which no pair stands and nobody called, and
+    /// its first pass, which has the number 0.
     ///
     /// The words come from one list of zeros, which is freed before this returns.
     pub fn create(

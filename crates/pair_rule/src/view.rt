@@ -1,4 +1,5 @@
-//! What a pass knows of the table. No value of these types is made: they are what contracts see behind a seat.
+//! What a pass knows of the table. No value of these types is made: they are what contracts see behind a
+//! seat.
 
 use crate::sizes::About;
 use std::collections::LinkedList;

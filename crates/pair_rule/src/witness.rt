@@ -8,8 +8,8 @@ pub(crate) trait Relation<X, V> {
     ghost relates: { X → V → Type 0 };
 }
 
-/// A witness, as of a statement that something exists: some value that stands in a relation. Only contracts see
-/// it, and it has no bytes.
+/// A witness, as of a statement that something exists: some value that stands in a relation. Only contracts
+/// see it, and it has no bytes.
 #[derive(Drop)]
 pub struct Witness<V> {
     marker: PhantomData<V>,

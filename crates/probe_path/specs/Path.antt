@@ -1,4 +1,5 @@
--- The probe path of a packed pair in a table of 2 ^ d buckets, which stand in lines of 8. A part of the pair has w bits.
+-- The probe path of a packed pair in a table of 2 ^ d buckets, which stand in lines of 8. A part of the pair
+-- has w bits.
 use Rattle.std.specs.Prelude.{◌≡◌, ℕ, ◌+◌, ◌-◌, ◌*◌, ◌/◌, ◌%◌, ◌^◌, ◌<◌, ◌≤◌, min}
 use Rattle.mix_hash.specs.Hash.{mix_of}
 

@@ -1,7 +1,8 @@
 //! The order in which a table's buckets are looked at for a pair: a path of lines of 8 neighbouring buckets.
 //!
 //! A line is walked whole before the next one is computed, since a line's buckets come from memory together
-//! (Laarman, van de Pol and Weber 2010). The stride from line to line is odd, so a path meets no bucket twice.
+//! (Laarman, van de Pol and Weber 2010). The stride from line to line is odd, so a path meets no bucket
+//! twice.
 #![tactic(auto)]
 
 ghost use Rattle.std.specs.Prelude.{◌≡◌, ℕ, ◌+◌, ◌-◌, ◌*◌, ◌/◌, ◌%◌, ◌^◌, ◌<◌, ◌≤◌, ◌↔◌, IsTrue};
@@ -81,8 +82,8 @@ fn place_in_line(offset: u64, i: u64) -> u64
 impl<const W: u32> Path<W> {
     /// The path of `pair`, a number below `2^(2 * W)`, for `1 <= W <= 31` and `3 <= d <= 25`.
     ///
-    /// Of the table's `2^(d - 3)` lines at most `lines` are walked, which is 1 or more. No bucket comes twice, and where
-    /// all lines are walked, each bucket of the table comes.
+    /// Of the table's `2^(d - 3)` lines at most `lines` are walked, which is 1 or more. No bucket comes
+    /// twice, and where all lines are walked, each bucket of the table comes.
     #[inline]
     pub fn new(pair: u64, d: u32, lines: u64) -> Self
         requires width { (1 ≤ W) × (W ≤ 31) }
@@ -125,7 +126,8 @@ impl<const W: u32> Path<W> {
         self.lines << 3
     }
 
-    /// The bucket of step `i`, which is below `len`: a number below `2^d`. It costs a product; a walk needs none.
+    /// The bucket of step `i`, which is below `len`: a number below `2^d`. It costs a product; a walk needs
+    /// none.
     #[inline]
     pub fn bucket(&self, i: u64) -> u64
         requires { i < 8 * self.now.lines }
@@ -206,7 +208,8 @@ impl<const W: u32> Walk<W> {
     #[inline]
     pub fn bucket(&self, i: u64) -> u64
         requires { i < 8 }
-        ensures bucket { result ≡ bucket_at W self.now.course.d self.now.course.pair (8 * self.now.passed + i) }
+        ensures bucket { result ≡ bucket_at W self.now.course.d self.now.course.pair
+            (8 * self.now.passed + i) }
         ensures below { result < 2 ^ self.now.course.d }
     {
         let path = &self.path;

@@ -14,11 +14,13 @@ use Rattle.root_plain.specs.Plain.{plain}
 
 -- over the calls of all callers, vectors with one identifier are one vector
 abbrev pub NamesDiffer : Type 0
-NamesDiffer = (store : Store) (p : PassOf Roots) → AtRest plain store p → (u v : Vector) (id : ℕ) → name_of (view p).seen u ≡ Some id → name_of (view p).seen v ≡ Some id → u ≡ v
+NamesDiffer = (store : Store) (p : PassOf Roots) → AtRest plain store p → (u v : Vector) (id : ℕ)
+    → name_of (view p).seen u ≡ Some id → name_of (view p).seen v ≡ Some id → u ≡ v
 
 -- identifiers are numbers of buckets
 abbrev pub NamesAreBuckets : Type 0
-NamesAreBuckets = (store : Store) (p : PassOf Roots) → AtRest plain store p → (v : Vector) (id : ℕ) → name_of (view p).seen v ≡ Some id → id < 2 ^ store.about.sizes.roots
+NamesAreBuckets = (store : Store) (p : PassOf Roots) → AtRest plain store p → (v : Vector) (id : ℕ)
+    → name_of (view p).seen v ≡ Some id → id < 2 ^ store.about.sizes.roots
 
 -- an identifier has one root pair, and a root pair one identifier
 abbrev pub RootsAreNaming : Type 0
@@ -26,13 +28,21 @@ RootsAreNaming = (store : Store) (p : PassOf Roots) → AtRest plain store p →
 
 -- before a call that is new its vector had no name, and its identifier was that of no vector
 abbrev pub NewNames : Type 0
-NewNames = (caller id : ℕ) (vector : Vector) (v w : View Roots) (caught : Caught plain (call caller true vector id ∷ []) v w) → (name_of caught.log vector ≡ None) × IsNoName id caught.log
+NewNames = (caller id : ℕ) (vector : Vector) (v w : View Roots)
+    (caught : Caught plain (call caller true vector id ∷ []) v w)
+    → (name_of caught.log vector ≡ None) × IsNoName id caught.log
 
--- where each bucket of a root's path has another root, its vector has no name in any history that is seen later
+-- where each bucket of a root's path has another root, its vector has no name in any history that is seen
+-- later
 abbrev pub FullForGood : Type 0
-FullForGood = (store : Store) (p q : PassOf Roots) (pair : ℕ) (v : Vector) → AtRest plain store p → AtRest plain store q → IsPart (view p).known (view q).known → IsPart (view p).root.roots (view q).root.roots
-    → RootStands store.about.width store.about.slots (view p).known pair v → Blocked (root_buckets store.about) (view p).root.roots pair → name_of (view q).seen v ≡ None
+FullForGood = (store : Store) (p q : PassOf Roots) (pair : ℕ) (v : Vector) → AtRest plain store p
+    → AtRest plain store q → IsPart (view p).known (view q).known
+    → IsPart (view p).root.roots (view q).root.roots
+    → RootStands store.about.width store.about.slots (view p).known pair v
+    → Blocked (root_buckets store.about) (view p).root.roots pair → name_of (view q).seen v ≡ None
 
--- a pass that stands for all passes that there are knows the whole store, whose nodes and roots fill their paths
+-- a pass that stands for all passes that there are knows the whole store, whose nodes and roots fill their
+-- paths
 abbrev pub WholeHasAll : Type 0
-WholeHasAll = (store : Store) (p : PassOf Roots) → AtRest plain store p → Whole (view p) → HasAll plain store.about (view p)
+WholeHasAll = (store : Store) (p : PassOf Roots) → AtRest plain store p → Whole (view p)
+    → HasAll plain store.about (view p)

@@ -1,4 +1,5 @@
--- The rule of a plain root table: each bucket is empty or has a root pair with flags, and those that are not empty are the identifiers of the history's names.
+-- The rule of a plain root table: each bucket is empty or has a root pair with flags, and those that are not
+-- empty are the identifiers of the history's names.
 use Rattle.std.specs.Prelude.{◌≡◌, ◌≢◌, ℕ, ◌^◌, ◌<◌, ◌≤◌, List, [], ◌++◌, Some, slice_index}
 use mathlib.Core.Option.{some}
 use lib.ListN.{get_elem?}
@@ -52,14 +53,18 @@ pub record HasFlags (about : About) (log : History) (v : Vector) (word : ℕ) : 
   pub flags_are : flags_of log v ≡ Some flags
   pub holds : Holds about word pair flags
 
--- The rule on the root words, the history and what each view knows of the words: the used buckets are exactly the identifiers of the history's names, each with its vector's flags,
--- and each root pair that a view knows is that of its word. No entry is ruled out here.
+-- The rule on the root words, the history and what each view knows of the words: the used buckets are exactly
+-- the identifiers of the history's names, each with its vector's flags, and each root pair that a view knows
+-- is that of its word. No entry is ruled out here.
 pub record Plain (about : About) (log : History) (ws : List ℕ) (views : List (View Roots)) : Type 0 where
   pub is_about : IsPlain about
   pub filled : Filled (root_buckets about) (IsRoot about) (root_at ws)
-  pub used : (id : ℕ) → id < size (root_buckets about) → root_at ws id ≢ 0 → (v : Vector) × (name_of log v ≡ Some id)
-  pub names : (v : Vector) (id : ℕ) → name_of log v ≡ Some id → (id < size (root_buckets about)) × HasFlags about log v (root_at ws id)
-  pub roots : (j : ℕ) (v : View Roots) → get_elem? views j ≡ some v → (id pair : ℕ) → Has (id, pair) v.root.roots → (id < size (root_buckets about)) × IsRoot about (root_at ws id) pair
+  pub used : (id : ℕ) → id < size (root_buckets about) → root_at ws id ≢ 0
+      → (v : Vector) × (name_of log v ≡ Some id)
+  pub names : (v : Vector) (id : ℕ) → name_of log v ≡ Some id
+      → (id < size (root_buckets about)) × HasFlags about log v (root_at ws id)
+  pub roots : (j : ℕ) (v : View Roots) → get_elem? views j ≡ some v → (id pair : ℕ)
+      → Has (id, pair) v.root.roots → (id < size (root_buckets about)) × IsRoot about (root_at ws id) pair
 
 -- the identifier is a bucket of the pair's path
 pub record Lies (b : Buckets) (id pair : ℕ) : Type 0 where

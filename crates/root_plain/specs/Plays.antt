@@ -17,11 +17,14 @@ wants (Pair wanted) = λ pair. pair == wanted
 wants Each = λ pair. true
 wants Nothing = λ pair. false
 
--- What the word n tells that was found in the root bucket `id`, by a load or by an exchange that lost. A pair that is wanted makes a call.
+-- What the word n tells that was found in the root bucket `id`, by a load or by an exchange that lost. A pair
+-- that is wanted makes a call.
 pub record Shows (wanted : ℕ → Bool) (id n : ℕ) (v w : View Roots) : Type 0 where
   pub word : (n ≡ 0) ⊎ ((pair : ℕ) × IsRoot v.about n pair)
   pub empty : n ≡ 0 → Caught plain [] v w × IsNoName id w.seen
-  pub pair : (pair flags : ℕ) → Holds v.about n pair flags → Has (id, pair) w.root.roots × ((vector : Vector) → name_of w.seen vector ≡ Some id → flags_of w.seen vector ≡ Some flags)
+  pub pair : (pair flags : ℕ) → Holds v.about n pair flags
+      → Has (id, pair) w.root.roots
+      × ((vector : Vector) → name_of w.seen vector ≡ Some id → flags_of w.seen vector ≡ Some flags)
   pub other : (pair : ℕ) → IsRoot v.about n pair → wanted pair ≡ false → Caught plain [] v w
   pub found : (pair : ℕ) → IsRoot v.about n pair → wanted pair ≡ true → Called plain false id pair v w
 
@@ -40,5 +43,7 @@ module _ {S : Type 0} where
   abbrev pub claimed : Step S → Me S (View Roots) → ℕ → Me S (View Roots) → Type 0
   claimed st m n m' =
       Leaves m m'
-      × (n ≡ 0 → Called plain true (st.word - first_root m.0.about) (st.second - 9223372036854775808) m.0 m'.0)
-      × (n ≢ 0 → Shows (wants (Pair (st.second - 9223372036854775808))) (st.word - first_root m.0.about) n m.0 m'.0)
+      × (n ≡ 0 → Called plain true (st.word - first_root m.0.about)
+      (st.second - 9223372036854775808) m.0 m'.0)
+      × (n ≢ 0 → Shows (wants (Pair (st.second - 9223372036854775808)))
+      (st.word - first_root m.0.about) n m.0 m'.0)

@@ -26,17 +26,22 @@ roots_naming store p r =
           let m = s.named.only id x a in
           let o = s.named.only id y b in
           let one = names-differ v.about.flags v.seen s.legal m.0 o.0 id m.1 o.1 in
-          one_root v.about.width v.about.slots known s.nodes.naming x y o.0 (subst (λ (u : Vector). RootStands v.about.width v.about.slots known x u) one m.2) o.2;
+          one_root v.about.width v.about.slots known s.nodes.naming x y o.0
+          (subst (λ (u : Vector). RootStands v.about.width v.about.slots known x u) one m.2) o.2;
       one_index = λ i j x a b.
           let m = s.named.only i x a in
           let o = s.named.only j x b in
-          let one = one_vector v.about.width v.about.slots known s.nodes.naming x m.0 o.0 is_plain.range.least_slots m.3 o.3 m.2 o.2 in
+          let one = one_vector v.about.width v.about.slots known s.nodes.naming x m.0 o.0
+          is_plain.range.least_slots m.3 o.3 m.2 o.2 in
           let same : Some i ≡ Some j = sym m.1 ∙ (ap (λ (u : Vector). name_of v.seen u) one ∙ o.1) in
           cc same;
     }
 
-pub never_named : (store : Store) (p q : PassOf Roots) (pair : ℕ) (v : Vector) → AtRest plain store p → AtRest plain store q → IsPart (view p).known (view q).known → IsPart (view p).root.roots (view q).root.roots
-    → RootStands store.about.width store.about.slots (view p).known pair v → Blocked (root_buckets store.about) (view p).root.roots pair → name_of (view q).seen v ≡ None
+pub never_named : (store : Store) (p q : PassOf Roots) (pair : ℕ) (v : Vector) → AtRest plain store p
+    → AtRest plain store q → IsPart (view p).known (view q).known
+    → IsPart (view p).root.roots (view q).root.roots
+    → RootStands store.about.width store.about.slots (view p).known pair v
+    → Blocked (root_buckets store.about) (view p).root.roots pair → name_of (view q).seen v ≡ None
 never_named store p q pair v rp rq known roots stands blocked = by (name_of (view q).seen v) refl
   where
     by : (o : Option ℕ) → name_of (view q).seen v ≡ o → o ≡ None
@@ -48,16 +53,24 @@ never_named store p q pair v rp rq known roots stands blocked = by (name_of (vie
         let m = s.named.only id k.0 k.1 in
         let same = names-differ (view q).about.flags (view q).seen s.legal m.0 v id m.1 t in
         let theirs : RootStands store.about.width store.about.slots (view q).known k.0 v =
-        subst (λ (y : About). RootStands y.width y.slots (view q).known k.0 v) is (subst (λ (u : Vector). RootStands (view q).about.width (view q).about.slots (view q).known k.0 u) same m.2) in
-        let one : k.0 ≡ pair = one_root store.about.width store.about.slots (view q).known s.nodes.naming k.0 pair v theirs (root_more store.about (view p).known (view q).known pair v known stands) in
+        subst (λ (y : About). RootStands y.width y.slots (view q).known k.0 v) is
+        (subst (λ (u : Vector). RootStands (view q).about.width (view q).about.slots
+        (view q).known k.0 u) same m.2) in
+        let one : k.0 ≡ pair =
+        one_root store.about.width store.about.slots (view q).known s.nodes.naming k.0 pair v theirs
+        (root_more store.about (view p).known (view q).known pair v known stands) in
         let l = subst (λ (y : About). Lies (root_buckets y) id k.0) is (s.root_sound.lies id k.0 k.1) in
         let other = blocked l.step l.within in
-        let here : bucket (root_buckets store.about) pair l.step ≡ id = ap (λ (x : ℕ). bucket (root_buckets store.about) x l.step) (sym one) ∙ l.here in
-        let there : Has (id, other.0) (view q).root.roots = subst (λ (i : ℕ). Has (i, other.0) (view q).root.roots) here (roots (bucket (root_buckets store.about) pair l.step) other.0 other.1) in
+        let here : bucket (root_buckets store.about) pair l.step ≡ id =
+        ap (λ (x : ℕ). bucket (root_buckets store.about) x l.step) (sym one) ∙ l.here in
+        let there : Has (id, other.0) (view q).root.roots =
+        subst (λ (i : ℕ). Has (i, other.0) (view q).root.roots) here
+        (roots (bucket (root_buckets store.about) pair l.step) other.0 other.1) in
         absurd (other.2 ((roots_naming store q rq).one_pair id other.0 k.0 there k.1 ∙ one))
 
 pub plain_refusals : Refusals plain
 plain_refusals = record {
-  stay = λ store p q pair rp rq known roots blocked step lt. (let o = blocked step lt in (o.0, roots _ o.0 o.1, o.2));
+  stay = λ store p q pair rp rq known roots blocked step lt.
+      (let o = blocked step lt in (o.0, roots _ o.0 o.1, o.2));
   for_good = never_named;
 }

@@ -6,7 +6,8 @@ use Rattle.root_plain.specs.Plain.{Holds, IsRoot}
 
 pub same_word : (about : About) (n x y f g : ℕ) → Holds about n x f → Holds about n y g → (x ≡ y) × (f ≡ g)
 same_word about n x y f g p q =
-    let e : f * 2 ^ (2 * about.width) + x ≡ g * 2 ^ (2 * about.width) + y = let z = sym p.word_is ∙ q.word_is in omega (arith, z) in
+    let e : f * 2 ^ (2 * about.width) + x ≡ g * 2 ^ (2 * about.width) + y = let z =
+    sym p.word_is ∙ q.word_is in omega (arith, z) in
     let s = same_from_place f x g y (2 ^ (2 * about.width)) p.is_pair q.is_pair e in
     (s.1, s.0)
 

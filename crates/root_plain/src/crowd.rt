@@ -14,7 +14,8 @@ use std::thread;
 use std::thread::Threads;
 use tdb_base::{NoMemory, Silent, Steps};
 
-// A caller's pass, from which of the roots (0, 0) to (0, 11) on it puts them, and what it was answered for each.
+// A caller's pass, from which of the roots (0, 0) to (0, 11) on it puts them, and what it was answered for
+// each.
 #[derive(Drop)]
 struct Caller {
     pass: PassOf<Roots>,
@@ -102,7 +103,8 @@ fn join_callers(store: &Store, pass: &mut StorePass, callers: Vec<Caller>) -> u6
     pass.names_count
 }
 
-// How many callers were answered that they gave the root its name, if all were answered the same identifier, or all that there is no place.
+// How many callers were answered that they gave the root its name, if all were answered the same identifier,
+// or all that there is no place.
 fn named_by(callers: &[Caller], root: usize) -> Option<(Option<u64>, u64)>
     requires { root < 12 }
 {
@@ -121,7 +123,8 @@ fn named_by(callers: &[Caller], root: usize) -> Option<(Option<u64>, u64)>
     Some((id, fresh))
 }
 
-// So many callers put the roots at once into a table for so many: all see the same identifiers, different roots have different ones, and each name is given once.
+// So many callers put the roots at once into a table for so many: all see the same identifiers, different
+// roots have different ones, and each name is given once.
 fn compare<H: Threads + Abort + Sync>(
     rt: &H,
     alloc: Global,

@@ -23,8 +23,9 @@ fn has_bucket(roots: u32, id: u64) -> bool
 
 /// The root, as its two parts, of the vector with this identifier, if it is some vector's.
 ///
-/// `Some` is one call of the table's history, made at one atomic step, which found that vector. `None` makes no call, and says that no vector has the
-/// identifier in the history that the pass has then seen. It waits for nobody and takes no memory.
+/// `Some` is one call of the table's history, made at one atomic step, which found that vector. `None` makes
+/// no call, and says that no vector has the identifier in the history that the pass has then seen. It waits
+/// for nobody and takes no memory.
 pub fn find_id<const W: u32, const F: u32>(
     nodes: &Nodes<PlainRoot<W, F>, W, F>,
     pass: &mut Pass<PlainRoot<W, F>, W, F>,
@@ -46,8 +47,8 @@ pub fn find_id<const W: u32, const F: u32>(
     Some((Layout::<W, F>::left(word), Layout::<W, F>::right(word)))
 }
 
-/// The root, as its two parts, of the vector with this identifier, which is one that the pass has seen named. It makes no call, waits for nobody and takes no
-/// memory.
+/// The root, as its two parts, of the vector with this identifier, which is one that the pass has seen named.
+/// It makes no call, waits for nobody and takes no memory.
 pub fn root_pair<const W: u32, const F: u32>(
     nodes: &Nodes<PlainRoot<W, F>, W, F>,
     pass: &mut Pass<PlainRoot<W, F>, W, F>,

@@ -1,7 +1,9 @@
 //! The laws of passes of a plain store, each as the contract of a function that does nothing.
-ghost use Rattle.root_plain.specs.PassLaws.{NamesDiffer, NamesAreBuckets, RootsAreNaming, NewNames, FullForGood, WholeHasAll};
+ghost use Rattle.root_plain.specs.PassLaws.{NamesDiffer, NamesAreBuckets, RootsAreNaming, NewNames};
+ghost use Rattle.root_plain.specs.PassLaws.{FullForGood, WholeHasAll};
 
-/// In the history that a pass has seen, whoever made the calls, a vector has one identifier and different vectors have different ones, all below `2^roots`.
+/// In the history that a pass has seen, whoever made the calls, a vector has one identifier and different
+/// vectors have different ones, all below `2^roots`.
 pub fn names_differ()
     ensures differ { NamesDiffer }
     ensures below { NamesAreBuckets }
@@ -22,8 +24,8 @@ pub fn full_for_good()
     ensures { FullForGood }
 {}
 
-/// What a pass that stands for all passes knows is a store: it put all of its nodes, all calls are its own, nodes and roots fill their paths, and the roots are
-/// those of the history's names.
+/// What a pass that stands for all passes knows is a store: it put all of its nodes, all calls are its own,
+/// nodes and roots fill their paths, and the roots are those of the history's names.
 pub fn whole_has_all()
     ensures { WholeHasAll }
 {}

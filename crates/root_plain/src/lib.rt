@@ -1,7 +1,8 @@
-//! The root table of plain mode: a word for each named vector, whose place is the vector's identifier for good.
+//! The root table of plain mode: a word for each named vector, whose place is the vector's identifier for
+//! good.
 //!
-//! Each answer is one call of one history, made at one atomic step. The words stand in the shared table behind those of the nodes, and are filled without a
-//! lock (after Laarman, van de Pol and Weber 2010).
+//! Each answer is one call of one history, made at one atomic step. The words stand in the shared table
+//! behind those of the nodes, and are filled without a lock (after Laarman, van de Pol and Weber 2010).
 #![tactic(auto)]
 
 mod find;

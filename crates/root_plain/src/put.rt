@@ -27,8 +27,8 @@ use tdb_base::{Ledger, Steps};
 // The present bit.
 const PRESENT: u64 = 1 << 63;
 
-// Looks at the bucket `at`, the next one of the path of the word's pair, and puts the word there if it is empty. Answers
-// the word that stands there, if it wasn't.
+// Looks at the bucket `at`, the next one of the path of the word's pair, and puts the word there if it is
+// empty. Answers the word that stands there, if it wasn't.
 #[inline]
 fn settle<const W: u32, const F: u32>(
     table: &PairTable<PlainRoot<W, F>, W, F>,
@@ -39,12 +39,14 @@ fn settle<const W: u32, const F: u32>(
     requires rest { AtRest plain table.now pass.old }
     requires word { IsNodeWord table.now.about word }
     requires inside { at < size (root_buckets table.now.about) }
-    requires passed { IsNext (root_buckets table.now.about) (view pass.old).root.roots (pair_of_word word) at }
+    requires passed { IsNext (root_buckets table.now.about) (view pass.old).root.roots
+        (pair_of_word word) at }
     requires stands { IsSomeRoot table.now.about (view pass.old).known (pair_of_word word) }
     ensures rest { AtRest plain table.now pass.new }
     ensures put { IfNone result (Called plain true at (pair_of_word word) (view pass.old) (view pass.new)) }
     ensures used { IfSome result (λ found. found ≢ 0) }
-    ensures found { IfSome result (λ found. Shows (wants (Pair (pair_of_word word))) at found (view pass.old) (view pass.new)) }
+    ensures found { IfSome result
+        (λ found. Shows (wants (Pair (pair_of_word word))) at found (view pass.old) (view pass.new)) }
     ensures buffers { KeepsBuffers pass.old pass.new }
 {
     let wanted = Wanted::Pair(word - PRESENT);
@@ -71,7 +73,8 @@ fn visit<const W: u32, const F: u32>(
     requires rest { AtRest plain table.now pass.old }
     requires word { IsNodeWord table.now.about word }
     requires inside { at < size (root_buckets table.now.about) }
-    requires passed { IsNext (root_buckets table.now.about) (view pass.old).root.roots (pair_of_word word) at }
+    requires passed { IsNext (root_buckets table.now.about) (view pass.old).root.roots
+        (pair_of_word word) at }
     requires stands { IsSomeRoot table.now.about (view pass.old).known (pair_of_word word) }
     ensures rest { AtRest plain table.now pass.new }
     ensures outcome { MatchOption result
@@ -102,7 +105,8 @@ fn walk_line<const W: u32, const F: u32>(
     requires word { IsNodeWord table.now.about word }
     requires walk { Along table.now.about (pair_of_word word) walk.now.course }
     requires line { walk.now.passed < walk.now.course.lines }
-    requires passed { Passed (root_buckets table.now.about) (Listed (view pass.old).root.roots) (pair_of_word word)
+    requires passed { Passed (root_buckets table.now.about) (Listed (view pass.old).root.roots)
+        (pair_of_word word)
         (8 * walk.now.passed) }
     requires stands { IsSomeRoot table.now.about (view pass.old).known (pair_of_word word) }
     ensures rest { AtRest plain table.now pass.new }
@@ -148,13 +152,13 @@ fn walk_path<const W: u32, const F: u32>(
     None
 }
 
-/// Gives the vector with the root `(left, right)` a name, or finds its name: its identifier, below `2^roots`, and whether
-/// it is new.
+/// Gives the vector with the root `(left, right)` a name, or finds its name: its identifier, below `2^roots`,
+/// and whether it is new.
 ///
-/// The parts are below `2^W`, and the pair is the root of some vector in the nodes that the pass knows. The answer is one
-/// call of the table's history, made at one atomic step; afterwards the pass has seen that history up to this call. It
-/// counts one step. `RootsFull` comes only where each bucket of the pair's path has another root, which stays so; no call
-/// is made then. It waits for nobody and takes no memory.
+/// The parts are below `2^W`, and the pair is the root of some vector in the nodes that the pass knows. The
+/// answer is one call of the table's history, made at one atomic step; afterwards the pass has seen that
+/// history up to this call. It counts one step. `RootsFull` comes only where each bucket of the pair's path
+/// has another root, which stays so; no call is made then. It waits for nobody and takes no memory.
 pub fn put_root<L: Ledger, const W: u32, const F: u32>(
     nodes: &Nodes<PlainRoot<W, F>, W, F>,
     pass: &mut Pass<PlainRoot<W, F>, W, F>,
@@ -165,7 +169,8 @@ pub fn put_root<L: Ledger, const W: u32, const F: u32>(
     requires rest { AtRest plain nodes.now pass.old }
     requires left { left < 2 ^ nodes.now.about.width }
     requires right { right < 2 ^ nodes.now.about.width }
-    requires stands { IsSomeRoot nodes.now.about (view pass.old).known (pair_of nodes.now.about.width left right) }
+    requires stands { IsSomeRoot nodes.now.about (view pass.old).known
+        (pair_of nodes.now.about.width left right) }
     ensures put { IfOk result (λ a. RootPut plain nodes.now (pair_of nodes.now.about.width left right) a.0 a.1
         pass.old pass.new) }
     ensures refused { OnErr result (RootRefused plain nodes.now (pair_of nodes.now.about.width left right)

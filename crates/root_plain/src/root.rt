@@ -3,16 +3,16 @@
 use pair_rule::{RootPart, Sizes};
 use std::collections::LinkedList;
 
-/// What a pass knows of a plain root table: identifiers, each with the root's pair as one number. No value is made: it is
-/// what contracts see behind a seat.
+/// What a pass knows of a plain root table: identifiers, each with the root's pair as one number. No value is
+/// made: it is what contracts see behind a seat.
 pub struct Roots {
     pub roots: LinkedList<(u64, u64)>,
 }
 
 /// The table of roots of plain mode: a word for each root, whose place is the root's identifier.
 ///
-/// It has `2^roots` buckets with `roots` from 3 to 24, in lines of 8. A root stands on its pair's path, as a node does,
-/// and its word also has the vector's flags.
+/// It has `2^roots` buckets with `roots` from 3 to 24, in lines of 8. A root stands on its pair's path, as a
+/// node does, and its word also has the vector's flags.
 pub struct PlainRoot<const W: u32, const F: u32>;
 
 impl<const W: u32, const F: u32> RootPart<W, F> for PlainRoot<W, F> {
@@ -42,7 +42,7 @@ impl<const W: u32, const F: u32> RootPart<W, F> for PlainRoot<W, F> {
 
     ghost keeps_join = { plain_keeps_join };
 
-    ghost starts = { λ about ws is long zero. plain_starts about ws is zero };
+    ghost starts = { λ about ws width flags is long zero. plain_starts about ws is zero };
 
     ghost sounds = { λ about log ws nodes views id v kept legal at fits live. plain_sounds about log ws views id v kept at };
 

@@ -37,9 +37,11 @@ fn load_asked<B: Asks, P: TableRule<(), View<Roots>, Opening<View<Roots>>>>(
 ) -> u64
     requires wanted { wants wanted.now ≡ B.wanted }
     requires seat { (seat.old.table_id ≡ shared.now.table_id) × (word < shared.now.table_id.words) }
-    requires rule { Allows (P.holds shared.now.key) shared.now.table_id.slots seat.old.id seat.old.me word (λ n. n) (sought (wants wanted.now) (step shared.now.table_id.slots word 0 0 none) seat.old.me) }
+    requires rule { Allows (P.holds shared.now.key) shared.now.table_id.slots seat.old.id seat.old.me word
+        (λ n. n) (sought (wants wanted.now) (step shared.now.table_id.slots word 0 0 none) seat.old.me) }
     ensures seat { seat.new.table_id ≡ seat.old.table_id }
-    ensures told { sought (wants wanted.now) (step shared.now.table_id.slots word 0 0 none) seat.old.me result seat.new.me }
+    ensures told { sought (wants wanted.now)
+        (step shared.now.table_id.slots word 0 0 none) seat.old.me result seat.new.me }
 {
     shared.load::<Seeking<B>>(seat, word)
 }
@@ -68,8 +70,8 @@ pub(crate) fn look<const W: u32, const F: u32>(
     )
 }
 
-// Puts the word of a pair into the bucket `at`, the one of this step of the pair's path, if it is empty; answers the
-// word that was there.
+// Puts the word of a pair into the bucket `at`, the one of this step of the pair's path, if it is empty;
+// answers the word that was there.
 #[inline]
 pub(crate) fn claim<const W: u32, const F: u32>(
     table: &PairTable<PlainRoot<W, F>, W, F>,
@@ -80,11 +82,13 @@ pub(crate) fn claim<const W: u32, const F: u32>(
     requires rest { AtRest plain table.now pass.old }
     requires word { IsNodeWord table.now.about word }
     requires inside { at < size (root_buckets table.now.about) }
-    requires passed { IsNext (root_buckets table.now.about) (view pass.old).root.roots (pair_of_word word) at }
+    requires passed { IsNext (root_buckets table.now.about) (view pass.old).root.roots
+        (pair_of_word word) at }
     requires stands { IsSomeRoot table.now.about (view pass.old).known (pair_of_word word) }
     ensures rest { AtRest plain table.now pass.new }
     ensures won { result ≡ 0 → Called plain true at (pair_of_word word) (view pass.old) (view pass.new) }
-    ensures lost { result ≢ 0 → Shows (wants (Pair (pair_of_word word))) at result (view pass.old) (view pass.new) }
+    ensures lost { result ≢ 0
+        → Shows (wants (Pair (pair_of_word word))) at result (view pass.old) (view pass.new) }
     ensures tree { pass.new ≡ record pass.old { seat = pass.new.seat; names_count = pass.new.names_count } }
 {
     let sizes = table.sizes();

@@ -47,7 +47,8 @@ pub(crate) fn put<L: Ledger>(
     requires rest { AtRest plain store.now pass.old }
     requires parts { (left < 2 ^ 16) × (right < 2 ^ 16) }
     ensures rest { AtRest plain store.now pass.new }
-    ensures named { MatchOption result (Unit {0}) (λ a. (vector : Vector) × (name_of (view pass.new).seen vector ≡ Some a.0)) }
+    ensures named { MatchOption result (Unit {0})
+        (λ a. (vector : Vector) × (name_of (view pass.new).seen vector ≡ Some a.0)) }
 {
     match put_root(store, pass, left, right, steps) {
         Ok(found) => Some(found),

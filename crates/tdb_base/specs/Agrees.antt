@@ -1,6 +1,7 @@
 -- When the replies to a trace's lines form one history: said once, whichever lines each worker has and
 -- whichever entries a line has, and then for lines that are dealt out in blocks and inserted.
-use Rattle.std.specs.Prelude.{◌≡◌, ◌++◌, ℕ, true, false, List, [], Option, Some, None, Contains, flat_map, length, option_to_list, slice_get}
+use Rattle.std.specs.Prelude.{◌≡◌, ◌++◌, ℕ, true, false, List, [], Option, Some, None, Contains, flat_map}
+use Rattle.std.specs.Prelude.{length, option_to_list, slice_get}
 use Rattle.std.specs.List.{filter_map, zip}
 use Rattle.tdb_base.specs.Replies.{is_full}
 use Rattle.tdb_base.specs.History.{Vector, Put, Entry, History, name_of, calls}

@@ -1,8 +1,10 @@
--- What contracts see of the sources and sinks in memory and of the adapters, and what a numbered call of them does.
+-- What contracts see of the sources and sinks in memory and of the adapters, and what a numbered call of them
+-- does.
 use Rattle.std.specs.Prelude.{◌==◌, ◌+◌, ◌-◌, ◌^◌, ℕ, Bool, List, min}
 use Rattle.std.specs.List.{list_any}
 
--- a source in memory: the bytes still to come, the numbers of the calls that fail, how many bytes it gives a call at most, and its two counts
+-- a source in memory: the bytes still to come, the numbers of the calls that fail, how many bytes it gives a
+-- call at most, and its two counts
 pub record MemSourceState : Type 0 where
   pub left : List ℕ
   pub fails : List ℕ
@@ -10,7 +12,8 @@ pub record MemSourceState : Type 0 where
   pub calls : ℕ
   pub faults : ℕ
 
--- a sink in memory: the bytes taken, how many it has room for in all, the numbers of the writes that fail, how many bytes it takes a call at most, its two counts, and whether it is settled
+-- a sink in memory: the bytes taken, how many it has room for in all, the numbers of the writes that fail,
+-- how many bytes it takes a call at most, its two counts, and whether it is settled
 pub record MemSinkState : Type 0 where
   pub taken : List ℕ
   pub room : ℕ

@@ -1,12 +1,14 @@
 -- A set of vectors with flags, told as the history of the calls on it.
-use Rattle.std.specs.Prelude.{◌+◌, ◌-◌, ◌/◌, ◌%◌, ◌^◌, ◌==◌, ◌&&◌, ℕ, Bool, true, false, List, Option, Some, None, fold, filter, if◌then◌else◌, option_map}
+use Rattle.std.specs.Prelude.{◌+◌, ◌-◌, ◌/◌, ◌%◌, ◌^◌, ◌==◌, ◌&&◌, ℕ, Bool, true, false, List, Option, Some}
+use Rattle.std.specs.Prelude.{None, fold, filter, if◌then◌else◌, option_map}
 use Rattle.std.specs.Str.{bytes_eq}
 
 -- a state: its slots, each a number
 abbrev pub Vector : Type 0
 Vector = List ℕ
 
--- what a call did with its vector: it found or put it, and says whether it was fresh; it set or cleared a flag, and says whether the flag changed; or it read the flags
+-- what a call did with its vector: it found or put it, and says whether it was fresh; it set or cleared a
+-- flag, and says whether the flag changed; or it read the flags
 pub data Act : Type 0 where
   Put : Bool → Act
   Set : ℕ → Bool → Act

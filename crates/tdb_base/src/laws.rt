@@ -3,7 +3,8 @@
 ghost use Rattle.std.specs.Prelude.{◌≡◌, ◌<◌, Some, ℕ, List, []};
 ghost use Rattle.std.specs.List.{range_with_len};
 ghost use Rattle.tdb_base.specs.Agrees.{Agrees, AgreesAmongOthers, AgreesOver};
-ghost use Rattle.tdb_base.specs.Headline.{EqualLinesEqualIds, DifferentLinesDifferentIds, CountsNames, EachNewOnce, CountsDistinct};
+ghost use Rattle.tdb_base.specs.Headline.{EqualLinesEqualIds, DifferentLinesDifferentIds, CountsNames};
+ghost use Rattle.tdb_base.specs.Headline.{EachNewOnce, CountsDistinct};
 ghost use Rattle.tdb_base.specs.History.{Vector, History, flags_of, name_of};
 ghost use Rattle.tdb_base.specs.Legal.{IsLegal, IsNamedIn, KeepsNames, PutsOnly};
 ghost use Rattle.tdb_base.specs.Lines.{named};
@@ -38,23 +39,28 @@ pub fn names_are_given_by_entries()
 /// workers: the identifiers whoever else called and whatever was called before, the counts where nobody
 /// else did and nothing was.
 pub fn replies_tell_of_lines()
-    ensures equal_lines_equal_identifiers { (flag_count : ℕ) (trace : List Vector) (replies : List Reply) (workers block : ℕ)
+    ensures equal_lines_equal_identifiers { (flag_count : ℕ) (trace : List Vector) (replies : List Reply)
+        (workers block : ℕ)
         (earlier h : History) (callers : List ℕ)
         → AgreesAmongOthers flag_count trace replies workers block earlier h callers → 0 < workers
         → EqualLinesEqualIds trace replies }
-    ensures different_lines_different_identifiers { (flag_count : ℕ) (trace : List Vector) (replies : List Reply) (workers block : ℕ)
+    ensures different_lines_different_identifiers { (flag_count : ℕ) (trace : List Vector)
+        (replies : List Reply) (workers block : ℕ)
         (earlier h : History) (callers : List ℕ)
         → AgreesAmongOthers flag_count trace replies workers block earlier h callers → 0 < workers
         → DifferentLinesDifferentIds trace replies }
-    ensures count_is_the_number_of_names { (flag_count : ℕ) (trace : List Vector) (replies : List Reply) (workers block : ℕ)
+    ensures count_is_the_number_of_names { (flag_count : ℕ) (trace : List Vector) (replies : List Reply)
+        (workers block : ℕ)
         (h : History) (callers : List ℕ)
         → Agrees flag_count trace replies workers block [] h callers → 0 < workers
         → CountsNames replies h }
-    ensures each_new_exactly_once { (flag_count : ℕ) (trace : List Vector) (replies : List Reply) (workers block : ℕ)
+    ensures each_new_exactly_once { (flag_count : ℕ) (trace : List Vector) (replies : List Reply)
+        (workers block : ℕ)
         (h : History) (callers : List ℕ)
         → Agrees flag_count trace replies workers block [] h callers → 0 < workers
         → EachNewOnce trace replies }
-    ensures count_is_the_number_of_distinct_lines { (flag_count : ℕ) (trace : List Vector) (replies : List Reply) (workers block : ℕ)
+    ensures count_is_the_number_of_distinct_lines { (flag_count : ℕ) (trace : List Vector)
+        (replies : List Reply) (workers block : ℕ)
         (h : History) (callers : List ℕ)
         → Agrees flag_count trace replies workers block [] h callers → 0 < workers
         → CountsDistinct trace replies }

@@ -1,5 +1,5 @@
-//! The outside as traits with a written meaning, the sources and sinks in memory, replies and statuses, and the definitions of a history that all
-//! layers share.
+//! The outside as traits with a written meaning, the sources and sinks in memory, replies and statuses, and
+//! the definitions of a history that all layers share.
 #![tactic(auto)]
 
 mod gate;

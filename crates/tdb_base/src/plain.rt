@@ -1,6 +1,7 @@
 //! The definitions of a history as plain slow functions, to try them on small cases.
 
-ghost use Rattle.std.specs.Prelude.{◌≡◌, ◌++◌, ◌∷◌, [], OnOk, ℕ, Some, None, ◌<◌, ◌≤◌, ◌^◌, ◌+◌, ◌↔◌, IsTrue, IfOk, All, if◌then◌else◌, unwrap_or, length, map};
+ghost use Rattle.std.specs.Prelude.{◌≡◌, ◌++◌, ◌∷◌, [], OnOk, ℕ, Some, None, ◌<◌, ◌≤◌, ◌^◌, ◌+◌, ◌↔◌, IsTrue};
+ghost use Rattle.std.specs.Prelude.{IfOk, All, if◌then◌else◌, unwrap_or, length, map};
 ghost use Rattle.tdb_base.specs.History as h;
 ghost use Rattle.tdb_base.specs.Acts.{act_of};
 ghost use Rattle.tdb_base.specs.Plain.{BitBelow32, FlagsBelow32};
@@ -43,7 +44,8 @@ impl Entry {
     fn flags_after(&self, flags: Option<u64>, vector: &[u32]) -> Option<u64>
         requires low { FlagsBelow32 self.now }
         requires room { unwrap_or flags 0 + 2 ^ 31 < 2 ^ 64 }
-        ensures value { result ≡ (if h.same self.now.vector vector.now then h.flags_after self.now.act flags else flags) }
+        ensures value { result ≡
+            (if h.same self.now.vector vector.now then h.flags_after self.now.act flags else flags) }
         ensures grows { unwrap_or result 0 ≤ unwrap_or flags 0 + 2 ^ 31 }
     {
         if self.vector.as_slice() == vector {
@@ -65,7 +67,8 @@ pub fn name_of(history: &[Entry], vector: &[u32]) -> Option<u64>
     name
 }
 
-/// The flags of a vector after these calls, as one number, if it has a name. The flags that the calls name are below 32.
+/// The flags of a vector after these calls, as one number, if it has a name. The flags that the calls name
+/// are below 32.
 pub fn flags_of(history: &[Entry], vector: &[u32]) -> Option<u64>
     requires few { length history.now < 2 ^ 32 }
     requires low { All FlagsBelow32 history.now }
@@ -78,7 +81,8 @@ pub fn flags_of(history: &[Entry], vector: &[u32]) -> Option<u64>
     flags
 }
 
-/// Whether these calls form a legal history of a set whose vectors have so many flags. The flags that the calls name are below 32.
+/// Whether these calls form a legal history of a set whose vectors have so many flags. The flags that the
+/// calls name are below 32.
 pub fn is_legal(history: &[Entry], flag_count: u32) -> bool
     requires few { length history.now < 2 ^ 32 }
     requires low { All FlagsBelow32 history.now }
@@ -120,8 +124,8 @@ fn holds(vectors: &[Vec<u32>], vector: &[u32]) -> bool
     vectors.iter().any(|v| v.as_slice() == vector)
 }
 
-/// The numbers, from 0, of the lines of one of so many workers, to whom blocks of `block` lines are dealt out in turn. There is a worker, and a block
-/// has a line.
+/// The numbers, from 0, of the lines of one of so many workers, to whom blocks of `block` lines are dealt out
+/// in turn. There is a worker, and a block has a line.
 pub fn mine(
     alloc: Global,
     lines: u64,
@@ -205,7 +209,9 @@ fn is_flag(before: &[Entry], call: &Entry, bit: u32, wanted: bool) -> bool
     requires few { length before.now < 2 ^ 32 }
     requires low { All FlagsBelow32 before.now }
     requires bit { bit < 32 }
-    ensures { IsTrue result ↔ ((flags : ℕ) × (h.flags_of before.now call.now.vector ≡ Some flags) × (wanted ≡ h.has_bit flags bit)) }
+    ensures { IsTrue result ↔
+        ((flags : ℕ) × (h.flags_of before.now call.now.vector ≡ Some flags)
+        × (wanted ≡ h.has_bit flags bit)) }
 {
     match flags_of(before, call.vector()) {
         None => false,

@@ -1,6 +1,7 @@
 //! Where bytes go to: the trait, and the sinks in memory.
 
-ghost use Rattle.std.specs.Prelude.{◌≡◌, ◌<◌, ◌≤◌, ◌-◌, ◌||◌, ◌&&◌, ◌==◌, ℕ, Bool, true, false, List, Option, Some, None, length, [], min, IfOk, IsOk, is_err, nat_lt, if◌then◌else◌};
+ghost use Rattle.std.specs.Prelude.{◌≡◌, ◌<◌, ◌≤◌, ◌-◌, ◌||◌, ◌&&◌, ◌==◌, ℕ, Bool, true, false, List, Option};
+ghost use Rattle.std.specs.Prelude.{Some, None, length, [], min, IfOk, IsOk, is_err, nat_lt, if◌then◌else◌};
 ghost use Rattle.std.specs.Io.{WritesAtMost};
 ghost use Rattle.std.specs.Io.KnownBytes.{WriteAppends, Keeps};
 ghost use Rattle.tdb_base.specs.Causes.{HasCause, settled_after_write, settled_after_finish};
@@ -43,8 +44,8 @@ pub trait Sink {
         ensures settles { settled self.new ≡ settled_after_finish result (settled self.old) };
 }
 
-/// A sink in memory that takes at most `piece` bytes a call. Its writes are numbered from 1; those that `fails` lists fail, and so does a write of
-/// some bytes where no room is left.
+/// A sink in memory that takes at most `piece` bytes a call. Its writes are numbered from 1; those that
+/// `fails` lists fail, and so does a write of some bytes where no room is left.
 #[derive(Drop)]
 pub struct MemSink {
     bytes: Vec<u8>,
@@ -76,7 +77,17 @@ impl MemSink {
         piece: usize,
     ) -> Result<MemSink, NoMemory>
         requires { 0 < piece }
-        ensures { IfOk result (λ s. s ≡ record { taken = []; room = room; fails = fails.items; piece = piece; calls = 0; faults = 0; settled = true }) }
+        ensures { IfOk result
+            (λ s. s ≡ record {
+              taken = [];
+              room = room;
+              fails = fails.items;
+              piece = piece;
+              calls =
+                  0;
+              faults = 0;
+              settled = true;
+            }) }
     {
         let bytes = Vec::with_capacity(alloc, room)?;
         Ok(MemSink {
@@ -113,9 +124,11 @@ impl Sink for MemSink {
         ensures settles { self.new.settled ≡ settled_after_write result self.old.settled }
         ensures exact { is_err result ≡ (fails_at self.old.fails (counted self.old.calls)
             || (nat_lt 0 (length piece.now) && (self.old.room - length self.old.taken == 0))) }
-        ensures count { IfOk result (λ n. n ≡ min (min (length piece.now) self.old.piece) (self.old.room - length self.old.taken)) }
+        ensures count { IfOk result
+            (λ n. n ≡ min (min (length piece.now) self.old.piece) (self.old.room - length self.old.taken)) }
         ensures calls { self.new.calls ≡ counted self.old.calls }
-        ensures faults { self.new.faults ≡ (if is_err result then counted self.old.faults else self.old.faults) }
+        ensures faults { self.new.faults ≡
+            (if is_err result then counted self.old.faults else self.old.faults) }
         ensures fails { self.new.fails ≡ self.old.fails }
         ensures piece { self.new.piece ≡ self.old.piece }
         ensures room { self.new.room ≡ self.old.room }

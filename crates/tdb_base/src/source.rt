@@ -1,4 +1,6 @@
-ghost use Rattle.std.specs.Prelude.{◌≡◌, ◌<◌, ◌≤◌, ℕ, List, Option, Some, None, [], drop, take, length, vec_len, min, is_err, IfOk, IsOk, if◌then◌else◌};
+//! Sources of bytes: the trait, and one in memory.
+ghost use Rattle.std.specs.Prelude.{◌≡◌, ◌<◌, ◌≤◌, ℕ, List, Option, Some, None, [], drop, take, length};
+ghost use Rattle.std.specs.Prelude.{vec_len, min, is_err, IfOk, IsOk, if◌then◌else◌};
 ghost use Rattle.std.specs.Io.{ReadsAtMost};
 ghost use Rattle.std.specs.Io.KnownBytes.{ReadConsumes};
 ghost use Rattle.tdb_base.specs.Causes.{HasCause};
@@ -22,14 +24,16 @@ pub trait Source {
 
     /// Puts the next bytes at the front of `buf`, and answers how many.
     ///
-    /// None of a `buf` with room is the end of the input. `Failed` comes only where the faults rose, and takes no byte.
+    /// None of a `buf` with room is the end of the input. `Failed` comes only where the faults rose, and
+    /// takes no byte.
     fn read(&mut self, buf: &mut [u8]) -> Result<usize, Failed>
         ensures bound { ReadsAtMost result buf.new }
         ensures bytes { ReadConsumes (left self.old) (left self.new) result buf.new }
         ensures cause { HasCause (faults self.old) (faults self.new) result };
 }
 
-/// A source over bytes in memory, at most `piece` of them a call. Its calls are numbered from 1, and those that `fails` lists fail.
+/// A source over bytes in memory, at most `piece` of them a call. Its calls are numbered from 1, and those
+/// that `fails` lists fail.
 #[derive(Drop)]
 pub struct MemSource {
     bytes: Vec<u8>,
@@ -55,7 +59,14 @@ impl MemSource {
     /// A source of all the bytes. A piece has at least one byte.
     pub fn new(bytes: Vec<u8>, fails: Vec<u64>, piece: usize) -> MemSource
         requires { 0 < piece }
-        ensures { result ≡ record { left = bytes.items; fails = fails.items; piece = piece; calls = 0; faults = 0 } }
+        ensures { result ≡ record {
+          left = bytes.items;
+          fails = fails.items;
+          piece = piece;
+          calls =
+              0;
+          faults = 0;
+        } }
     {
         MemSource {
             bytes,
@@ -78,9 +89,11 @@ impl Source for MemSource {
         ensures bytes { ReadConsumes (Some self.old.left) (Some self.new.left) result buf.new }
         ensures cause { HasCause self.old.faults self.new.faults result }
         ensures exact { is_err result ≡ fails_at self.old.fails (counted self.old.calls) }
-        ensures count { IfOk result (λ n. n ≡ min (min (length buf.old) self.old.piece) (length self.old.left)) }
+        ensures count { IfOk result
+            (λ n. n ≡ min (min (length buf.old) self.old.piece) (length self.old.left)) }
         ensures calls { self.new.calls ≡ counted self.old.calls }
-        ensures faults { self.new.faults ≡ (if is_err result then counted self.old.faults else self.old.faults) }
+        ensures faults { self.new.faults ≡
+            (if is_err result then counted self.old.faults else self.old.faults) }
         ensures fails { self.new.fails ≡ self.old.fails }
         ensures piece { self.new.piece ≡ self.old.piece }
     {

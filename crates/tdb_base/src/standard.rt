@@ -13,7 +13,8 @@ use crate::{Failed, Sink, Source};
 use std::io::{Read, Write};
 use std::marker::Model;
 
-/// A source over a reader of std, with a count of its errors. It tells the bytes that the reader tells: none over standard input.
+/// A source over a reader of std, with a count of its errors. It tells the bytes that the reader tells: none
+/// over standard input.
 #[derive(Drop)]
 pub struct StdSource<R> {
     inner: R,
@@ -44,9 +45,11 @@ impl<R: Read> Source for StdSource<R> {
 
     fn read(&mut self, buf: &mut [u8]) -> Result<usize, Failed>
         ensures bound { ReadsAtMost result buf.new }
-        ensures bytes { ReadConsumes (R.remaining self.old.inner) (R.remaining self.new.inner) result buf.new }
+        ensures bytes { ReadConsumes (R.remaining self.old.inner)
+            (R.remaining self.new.inner) result buf.new }
         ensures cause { HasCause self.old.faults self.new.faults result }
-        ensures counts { self.new.faults ≡ (if is_err result then counted self.old.faults else self.old.faults) }
+        ensures counts { self.new.faults ≡
+            (if is_err result then counted self.old.faults else self.old.faults) }
     {
         match self.inner.read(buf) {
             Ok(count) => Ok(count),
@@ -58,8 +61,8 @@ impl<R: Read> Source for StdSource<R> {
     }
 }
 
-/// A sink over a writer of std, with a count of its errors. A write that takes no byte of a piece that has some counts as one. It tells the bytes
-/// that the writer tells: none over standard output.
+/// A sink over a writer of std, with a count of its errors. A write that takes no byte of a piece that has
+/// some counts as one. It tells the bytes that the writer tells: none over standard output.
 #[derive(Drop)]
 pub struct StdSink<T> {
     inner: T,
@@ -98,10 +101,12 @@ impl<T: Write> Sink for StdSink<T> {
     fn write(&mut self, piece: &[u8]) -> Result<usize, Failed>
         ensures bound { WritesAtMost result piece.now }
         ensures some { IfOk result (λ n. 0 < length piece.now → 0 < n) }
-        ensures bytes { WriteAppends (T.contents self.old.inner) (T.contents self.new.inner) result piece.now }
+        ensures bytes { WriteAppends (T.contents self.old.inner)
+            (T.contents self.new.inner) result piece.now }
         ensures cause { HasCause self.old.faults self.new.faults result }
         ensures settles { self.new.settled ≡ settled_after_write result self.old.settled }
-        ensures counts { self.new.faults ≡ (if is_err result then counted self.old.faults else self.old.faults) }
+        ensures counts { self.new.faults ≡
+            (if is_err result then counted self.old.faults else self.old.faults) }
     {
         match self.inner.write(piece) {
             Ok(count) if count > 0 => {
@@ -120,7 +125,8 @@ impl<T: Write> Sink for StdSink<T> {
         ensures bytes { Keeps (T.contents self.old.inner) (T.contents self.new.inner) }
         ensures cause { HasCause self.old.faults self.new.faults result }
         ensures settles { self.new.settled ≡ settled_after_finish result self.old.settled }
-        ensures counts { self.new.faults ≡ (if is_err result then counted self.old.faults else self.old.faults) }
+        ensures counts { self.new.faults ≡
+            (if is_err result then counted self.old.faults else self.old.faults) }
     {
         match self.inner.flush() {
             Ok(()) => {

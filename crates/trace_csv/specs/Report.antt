@@ -28,14 +28,18 @@ named_line name n = name ++ decimal n ++ codes "\n"
 
 abbrev pub stats_text : Option Stats → List ℕ
 stats_text None = []
-stats_text (Some s) = named_line (codes "nodes ") s.nodes ++ (named_line (codes "stored ") s.stored ++ named_line (codes "raw ") s.raw)
+stats_text (Some s) =
+    named_line (codes "nodes ") s.nodes ++
+    (named_line (codes "stored ") s.stored ++ named_line (codes "raw ") s.raw)
 
 abbrev pub summary_text : Summary → List ℕ
-summary_text s = named_line (codes "lines ") s.lines ++ (named_line (codes "distinct ") s.distinct ++ stats_text s.stats)
+summary_text s = named_line (codes "lines ") s.lines ++
+    (named_line (codes "distinct ") s.distinct ++ stats_text s.stats)
 
 abbrev pub report : List Reply → Summary → List ℕ
 report replies summary = reply_lines 0 replies ++ summary_text summary
 
 -- the summary of some replies: how many they are, and how many of them are new
 abbrev pub summary_of : List Reply → Option Stats → Summary
-summary_of replies stats = record { lines = length replies; distinct = count_by is_new replies; stats = stats }
+summary_of replies stats =
+    record { lines = length replies; distinct = count_by is_new replies; stats = stats }

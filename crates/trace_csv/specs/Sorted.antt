@@ -7,7 +7,8 @@ use Rattle.std.specs.Ordering.{nat_cmp}
 use Rattle.std.specs.declared.cmp.Ordering.{Ordering}
 use Rattle.trace_csv.specs.Vectors.{vectors_text}
 
--- list order: the first place where two vectors differ decides by its numbers, and where there is none the shorter one comes first
+-- list order: the first place where two vectors differ decides by its numbers, and where there is none the
+-- shorter one comes first
 abbrev pub list_order : List ℕ → List ℕ → Ordering
 list_order = slice_cmp nat_cmp
 

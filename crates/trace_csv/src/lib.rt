@@ -1,8 +1,8 @@
 //! The trace as it comes in or is drawn, and the report and the vectors as they go out.
 //!
-//! A trace is text of comma-separated numbers, a vector a record (`read_all`, `read_trace`), or a walk that is drawn (`generate`).
-//! A report has a line for each vector's reply and then a summary (`write_report`, `write_summary`); vectors have a line each
-//! (`write_vectors`).
+//! A trace is text of comma-separated numbers, a vector a record (`read_all`, `read_trace`), or a walk that
+//! is drawn (`generate`). A report has a line for each vector's reply and then a summary (`write_report`,
+//! `write_summary`); vectors have a line each (`write_vectors`).
 #![tactic(auto)]
 
 mod direct;

@@ -1,3 +1,4 @@
+//! That a sink failed.
 ghost use Rattle.std.specs.Prelude.{◌≡◌, [], true, OnOk, OnErr};
 ghost use Rattle.std.specs.Io.KnownBytes.{Appends};
 ghost use Rattle.tdb_base.specs.Causes.{HasCause};

@@ -1,4 +1,6 @@
-ghost use Rattle.std.specs.Prelude.{◌≡◌, ◌+◌, ◌≤◌, ℕ, List, [], ◌++◌, length, take, true, OnOk, OnErr, IsTrue, ◌↔◌};
+//! A page of text on the stack, which goes to a sink when it is full.
+ghost use Rattle.std.specs.Prelude.{◌≡◌, ◌+◌, ◌≤◌, ℕ, List, [], ◌++◌, length, take, true, OnOk, OnErr};
+ghost use Rattle.std.specs.Prelude.{IsTrue, ◌↔◌};
 ghost use Rattle.std.specs.Fmt.{decimal};
 ghost use Rattle.std.specs.Io.KnownBytes.{Appends};
 ghost use Rattle.tdb_base.specs.Causes.{HasCause};
@@ -16,7 +18,8 @@ const SIZE: usize = 8192;
 // The room that is made at once: a number, or the whole end of a report.
 const ROOM: usize = 256;
 
-/// The end of a text that is on its way to a sink: a buffer on the stack, so that a sink is called for many lines at once.
+/// The end of a text that is on its way to a sink: a buffer on the stack, so that a sink is called for many
+/// lines at once.
 #[derive(Drop)]
 pub struct Page {
     bytes: [u8; SIZE],

@@ -1,3 +1,4 @@
+//! Why bytes are no trace.
 /// Why some bytes are no trace. Records and fields are counted from 1.
 #[derive(Clone, Copy, Debug, PartialEq, Eq)]
 pub enum TraceError {

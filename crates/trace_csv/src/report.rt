@@ -1,3 +1,4 @@
+//! What a report's summary tells: lines, distinct lines, and the counts of a store.
 /// The counts of a store.
 #[derive(Clone, Copy, Debug, PartialEq, Eq)]
 pub struct Stats {

@@ -1,3 +1,4 @@
+//! The lines of a trace, in one flat list.
 ghost use Rattle.std.specs.Prelude.{◌≡◌, ◌*◌, ◌^◌, ◌<◌, ◌≤◌, ℕ, List, All, Some, length, slice_get, vec_len};
 ghost use Rattle.trace_csv.specs.Pieces.{AreLines, pieces};
 

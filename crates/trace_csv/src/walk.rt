@@ -1,3 +1,4 @@
+//! A trace that is drawn.
 ghost use Rattle.std.specs.Prelude.{◌≡◌, ◌*◌, ◌^◌, ◌<◌, ◌≤◌, All, IfOk, length};
 ghost use Rattle.trace_csv.specs.Walk.{walk};
 
@@ -8,10 +9,12 @@ use rand_pcg::Lcg128Xsl64;
 use std::alloc::Global;
 use tdb_base::NoMemory;
 
-/// A trace that is drawn: its first line is zeros, and each later line is the one before it with one slot set anew.
+/// A trace that is drawn: its first line is zeros, and each later line is the one before it with one slot set
+/// anew.
 ///
-/// For each later line the 64-bit PCG generator (XSL RR 128/64, O'Neill 2014) that `seed` starts draws one number `w`, and slot
-/// `w mod slots` becomes `(w div slots) mod values`. So a line may equal the one before it. All memory is taken before the first draw.
+/// For each later line the 64-bit PCG generator (XSL RR 128/64, O'Neill 2014) that `seed` starts draws one
+/// number `w`, and slot `w mod slots` becomes `(w div slots) mod values`. So a line may equal the one before
+/// it. All memory is taken before the first draw.
 pub fn generate(
     alloc: Global,
     lines: u64,

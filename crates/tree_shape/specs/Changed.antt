@@ -1,5 +1,6 @@
 -- The changed set of two vectors: the inner positions whose pairs can differ in their trees.
-use Rattle.std.specs.Prelude.{◌≡◌, ◌≢◌, ℕ, zero, suc, ◌+◌, ◌/◌, ◌^◌, ◌<◌, ◌≤◌, Bool, true, false, not, ◌&&◌, ◌||◌, ◌==◌, nat_lt, nat_le, List, slice_index, slice_index_or, count_by}
+use Rattle.std.specs.Prelude.{◌≡◌, ◌≢◌, ℕ, zero, suc, ◌+◌, ◌/◌, ◌^◌, ◌<◌, ◌≤◌, Bool, true, false, not, ◌&&◌}
+use Rattle.std.specs.Prelude.{◌||◌, ◌==◌, nat_lt, nat_le, List, slice_index, slice_index_or, count_by}
 use Rattle.std.specs.List.{range_with_len}
 use Rattle.tree_shape.specs.Positions.{IsAbove}
 
@@ -27,7 +28,8 @@ is_above k p q = any_below (λ n. q / 2 ^ n == p) k
 -- the test of `IsChanged`, that tries the slots and the halvings in turn
 unfoldable pub is_changed : ℕ → List ℕ → List ℕ → ℕ → Bool
 is_changed k u v p =
-    nat_le 2 p && nat_lt p k && any_below (λ j. not (slice_index u j == slice_index v j) && is_above k p (k + j)) k
+    nat_le 2 p && nat_lt p k && any_below
+    (λ j. not (slice_index u j == slice_index v j) && is_above k p (k + j)) k
 
 -- the size of the changed set
 unfoldable pub changed_count : ℕ → List ℕ → List ℕ → ℕ

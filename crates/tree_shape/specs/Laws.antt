@@ -7,7 +7,8 @@ use Rattle.tree_shape.specs.Tree.{left_part, right_part, IsNaming, IsPart, Stand
 abbrev pub PartsOfPair : Type 0
 PartsOfPair =
     (width left right : ℕ) → right < 2 ^ width
-    → (left_part width (left * 2 ^ width + right) ≡ left) × (right_part width (left * 2 ^ width + right) ≡ right)
+    → (left_part width (left * 2 ^ width + right) ≡ left)
+    × (right_part width (left * 2 ^ width + right) ≡ right)
 
 -- at a slot's position exactly the slot stands for it
 abbrev pub StandsAtSlot : Type 0
@@ -24,7 +25,8 @@ StandsAtPair =
 -- over a naming, a root pair stands for at most one vector
 abbrev pub OneVector : Type 0
 OneVector =
-    (width slots : ℕ) (nodes : List (ℕ × ℕ)) (pair : ℕ) (u v : List ℕ) → 2 ≤ slots → IsNaming nodes → length u ≡ slots
+    (width slots : ℕ) (nodes : List (ℕ × ℕ)) (pair : ℕ) (u v : List ℕ) → 2 ≤ slots → IsNaming nodes
+    → length u ≡ slots
     → length v ≡ slots → RootStands width slots nodes pair u → RootStands width slots nodes pair v → u ≡ v
 
 -- over a naming, a vector has at most one root pair

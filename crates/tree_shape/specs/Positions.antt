@@ -1,5 +1,5 @@
--- The positions of a tree of pairs over k slots. Position 1 is the root, the parts of the pair at a position p below k come
--- from the positions 2 * p and 2 * p + 1, and the position k + j holds slot j.
+-- The positions of a tree of pairs over k slots. Position 1 is the root, the parts of the pair at a position
+-- p below k come from the positions 2 * p and 2 * p + 1, and the position k + j holds slot j.
 use Rattle.std.specs.Prelude.{◌≡◌, ℕ, ◌/◌, ◌^◌, ◌≤◌}
 
 -- the position p is above the position q: halving q some number of times gives p

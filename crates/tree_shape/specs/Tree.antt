@@ -13,8 +13,8 @@ left_part width pair = pair / 2 ^ width
 abbrev pub right_part : ℕ → ℕ → ℕ
 right_part width pair = pair % 2 ^ width
 
--- A finite map from indexes to pairs is a list of both, read by what it has. It names pairs where no index has two pairs and
--- no pair has two indexes.
+-- A finite map from indexes to pairs is a list of both, read by what it has. It names pairs where no index
+-- has two pairs and no pair has two indexes.
 pub record IsNaming (nodes : List (ℕ × ℕ)) : Type 0 where
   pub one_pair : (index pair other : ℕ) → Has (index, pair) nodes → Has (index, other) nodes → pair ≡ other
   pub one_index : (index other pair : ℕ) → Has (index, pair) nodes → Has (other, pair) nodes → index ≡ other
@@ -23,8 +23,8 @@ pub record IsNaming (nodes : List (ℕ × ℕ)) : Type 0 where
 abbrev pub IsPart : List (ℕ × ℕ) → List (ℕ × ℕ) → Type 0
 IsPart nodes more = (index pair : ℕ) → Has (index, pair) nodes → Has (index, pair) more
 
--- The number x at the position p, from 2 on, stands for the part of the vector below p: at a slot's position it is the slot,
--- at an inner position it is the index of a pair whose parts stand for what is below them.
+-- The number x at the position p, from 2 on, stands for the part of the vector below p: at a slot's position
+-- it is the slot, at an inner position it is the index of a pair whose parts stand for what is below them.
 pub data Stands (width slots : ℕ) (nodes : List (ℕ × ℕ)) (vector : List ℕ) : ℕ → ℕ → Type 0 where
   slot : {p x : ℕ} → slots ≤ p → x ≡ slice_index vector (p - slots) → Stands width slots nodes vector p x
   node : {p x : ℕ} (pair : ℕ) → p < slots → Has (x, pair) nodes
@@ -41,4 +41,5 @@ IsIndexOfParts width slots nodes vector p x =
 -- the root's pair stands for the whole vector
 abbrev pub RootStands : (width slots : ℕ) → List (ℕ × ℕ) → ℕ → List ℕ → Type 0
 RootStands width slots nodes pair vector =
-    Stands width slots nodes vector 2 (left_part width pair) × Stands width slots nodes vector 3 (right_part width pair)
+    Stands width slots nodes vector 2 (left_part width pair)
+    × Stands width slots nodes vector 3 (right_part width pair)

@@ -1,5 +1,7 @@
 //! The laws of trees of pairs, each as the contract of a function that does nothing.
-ghost use Rattle.tree_shape.specs.Laws.{PartsOfPair, StandsAtSlot, StandsAtPair, OneVector, OneRoot, OneNumber, StandsWithMore, RootStandsWithMore, StandsWhereSame, TestsChanged};
+ghost use Rattle.tree_shape.specs.Laws.{PartsOfPair, StandsAtSlot, StandsAtPair, OneVector, OneRoot};
+ghost use Rattle.tree_shape.specs.Laws.{OneNumber, StandsWithMore, RootStandsWithMore, StandsWhereSame};
+ghost use Rattle.tree_shape.specs.Laws.{TestsChanged};
 
 /// The parts of a pair that is packed into one number.
 pub fn parts_of_a_pair()
@@ -37,7 +39,8 @@ pub fn root_stands_with_more()
     ensures { RootStandsWithMore }
 {}
 
-/// Below a position under which two vectors have the same slots, a number that stands for the one stands for the other.
+/// Below a position under which two vectors have the same slots, a number that stands for the one stands for
+/// the other.
 pub fn stands_where_same()
     ensures { StandsWhereSame }
 {}

@@ -1,4 +1,5 @@
-//! The shape of the tree of pairs that keeps a vector, after the tree database of Laarman, van de Pol and Weber (2011).
+//! The shape of the tree of pairs that keeps a vector, after the tree database of Laarman, van de Pol and
+//! Weber (2011).
 #![tactic(auto)]
 
 ghost use Rattle.std.specs.Prelude.{◌≡◌, ℕ, ◌+◌, ◌-◌, ◌*◌, ◌/◌, ◌<◌, ◌≤◌, ◌↔◌, Err, IsTrue, length};
@@ -12,10 +13,11 @@ mod marking;
 use marking::{clear, mark_above};
 use std::marker::Model;
 
-/// The tree of pairs that keeps a vector is balanced. The positions of a tree of `k` slots are numbered from 1 to
-/// `2k - 1`: position 1 is the root, the pair at a position `p` below `k` has its left part from position `2p` and its right
-/// part from position `2p + 1`, and position `k + j` holds slot `j`. The positions from 2 to `k - 1` are the inner nodes.
-/// Contracts see a shape as its number of slots, which is from 2 to 1024.
+/// The tree of pairs that keeps a vector is balanced. The positions of a tree of `k` slots are numbered from
+/// 1 to `2k - 1`: position 1 is the root, the pair at a position `p` below `k` has its left part from
+/// position `2p` and its right part from position `2p + 1`, and position `k + j` holds slot `j`. The
+/// positions from 2 to `k - 1` are the inner nodes. Contracts see a shape as its number of slots, which is
+/// from 2 to 1024.
 #[derive(Clone, Copy, Debug, PartialEq, Eq)]
 pub struct Shape {
     slots: usize,
@@ -100,8 +102,9 @@ impl Shape {
         usize::BITS - (self.slots - 1).leading_zeros()
     }
 
-    /// Marks the inner positions above the slots in which two vectors differ, takes every other mark away, and answers how many
-    /// are set. Goes once over the marks and the slots, and up from each slot that differs until a position is marked already.
+    /// Marks the inner positions above the slots in which two vectors differ, takes every other mark away,
+    /// and answers how many are set. Goes once over the marks and the slots, and up from each slot that
+    /// differs until a position is marked already.
     pub fn changed(&self, old: &[u32], new: &[u32], marks: &mut [bool]) -> usize
         requires old { length old.now ≡ self.now }
         requires new { length new.now ≡ self.now }

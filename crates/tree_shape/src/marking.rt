@@ -12,8 +12,8 @@ pub(crate) fn clear(marks: &mut [bool])
     marks.fill(false);
 }
 
-// Marks the positions from 2 on that are above the slot's position `from`, and answers how many of them had no mark. A position
-// that has a mark ends the climb, since all above it have one.
+// Marks the positions from 2 on that are above the slot's position `from`, and answers how many of them had
+// no mark. A position that has a mark ends the climb, since all above it have one.
 pub(crate) fn mark_above(marks: &mut [bool], from: usize) -> usize
     requires inside { from < 2 * length marks.old }
     requires upwards { (p : ℕ) → IsMarked marks.old p → 2 ≤ p / 2 → IsMarked marks.old (p / 2) }

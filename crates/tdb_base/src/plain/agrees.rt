@@ -1,6 +1,7 @@
 //! Whether the replies to a trace form one history, as plain slow functions, to try runs of small cases.
 
-ghost use Rattle.std.specs.Prelude.{[], ◌≡◌, ◌++◌, ◌&&◌, ◌↔◌, ◌<◌, ◌^◌, ℕ, Some, None, Contains, IsTrue, All, length, map, not, slice_get, true, false};
+ghost use Rattle.std.specs.Prelude.{[], ◌≡◌, ◌++◌, ◌&&◌, ◌↔◌, ◌<◌, ◌^◌, ℕ, Some, None, Contains, IsTrue, All};
+ghost use Rattle.std.specs.Prelude.{length, map, not, slice_get, true, false};
 ghost use Rattle.std.specs.List.{filter_map};
 ghost use Rattle.std.specs.Option.{option_copied};
 ghost use Rattle.tdb_base.specs.Agrees.{Agrees, AgreesAmongOthers, entry_of, entry_of_line};
@@ -18,10 +19,12 @@ mod tests;
 use crate::plain::{is_legal, name_of};
 use crate::{Act, Entry, Reply};
 
-/// Whether the replies to the lines of a trace, dealt out in blocks of `block` lines to so many workers, who are these callers, form one history
-/// that goes on from an earlier one, of vectors with so many flags, and nobody else called after that.
+/// Whether the replies to the lines of a trace, dealt out in blocks of `block` lines to so many workers, who
+/// are these callers, form one history that goes on from an earlier one, of vectors with so many flags, and
+/// nobody else called after that.
 ///
-/// There is a worker, and a block has a line. The flags that the calls of the later history name are below 32.
+/// There is a worker, and a block has a line. The flags that the calls of the later history name are below
+/// 32.
 pub fn agrees(
     trace: &[Vec<u32>],
     replies: &[Reply],
@@ -36,7 +39,8 @@ pub fn agrees(
     requires low { All FlagsBelow32 later.now }
     requires some { 0 < workers }
     requires block { 0 < block }
-    ensures { IsTrue result ↔ Agrees flag_count (map (λ v. v.items) trace.now) replies.now workers block earlier.now later.now callers.now }
+    ensures { IsTrue result ↔ Agrees flag_count
+        (map (λ v. v.items) trace.now) replies.now workers block earlier.now later.now callers.now }
 {
     if !agrees_among_others(
         trace, replies, workers, block, earlier, later, callers, flag_count,
@@ -48,7 +52,8 @@ pub fn agrees(
 
 /// Whether `agrees` holds but for who else called: others may have called after the earlier history too.
 ///
-/// There is a worker, and a block has a line. The flags that the calls of the later history name are below 32.
+/// There is a worker, and a block has a line. The flags that the calls of the later history name are below
+/// 32.
 pub fn agrees_among_others(
     trace: &[Vec<u32>],
     replies: &[Reply],
@@ -63,7 +68,8 @@ pub fn agrees_among_others(
     requires low { All FlagsBelow32 later.now }
     requires some { 0 < workers }
     requires block { 0 < block }
-    ensures { IsTrue result ↔ AgreesAmongOthers flag_count (map (λ v. v.items) trace.now) replies.now workers block earlier.now later.now callers.now }
+    ensures { IsTrue result ↔ AgreesAmongOthers flag_count
+        (map (λ v. v.items) trace.now) replies.now workers block earlier.now later.now callers.now }
 {
     if replies.len() != trace.len() || callers.len() as u64 != workers {
         return false;
@@ -82,7 +88,8 @@ pub fn agrees_among_others(
 
 // Whether the call is by this caller, did this with this vector, and got this identifier.
 fn is_call(call: &Entry, caller: u64, act: Act, vector: &[u32], id: u64) -> bool
-    ensures { IsTrue result ↔ (call.now ≡ record { caller = caller; act = act_of act; vector = vector.now; id = id }) }
+    ensures { IsTrue result ↔
+        (call.now ≡ record { caller = caller; act = act_of act; vector = vector.now; id = id }) }
 {
     call.caller == caller && call.act == act && call.vector.as_slice() == vector && call.id == id
 }
@@ -105,7 +112,8 @@ fn extends(earlier: &[Entry], later: &[Entry]) -> bool
 
 // Whether no two callers are the same.
 fn callers_differ(callers: &[u64]) -> bool
-    ensures { IsTrue result ↔ ((j k c : ℕ) → slice_get callers.now j ≡ Some c → slice_get callers.now k ≡ Some c → j ≡ k) }
+    ensures { IsTrue result ↔
+        ((j k c : ℕ) → slice_get callers.now j ≡ Some c → slice_get callers.now k ≡ Some c → j ≡ k) }
 {
     for i in 0..callers.len() {
         let (before, _) = callers.split_at(i);
@@ -159,7 +167,8 @@ fn all_in_order(
     true
 }
 
-// Whether the calls of a caller, who is the worker of this number, are those that the replies to its lines tell of.
+// Whether the calls of a caller, who is the worker of this number, are those that the replies to its lines
+// tell of.
 fn in_order(
     trace: &[Vec<u32>],
     replies: &[Reply],
@@ -198,7 +207,8 @@ fn is_told(reply: Reply, own: bool) -> bool
 // Whether the call of this number of the caller's is the one that the reply to a vector tells of.
 fn is_number(history: &[Entry], caller: u64, number: usize, vector: &[u32], reply: Reply) -> bool
     requires { answers.is_full reply ≡ false }
-    ensures { IsTrue result ↔ (slice_get (h.calls history.now caller) number ≡ entry_of caller vector.now reply) }
+    ensures { IsTrue result ↔
+        (slice_get (h.calls history.now caller) number ≡ entry_of caller vector.now reply) }
 {
     match call_at(history, caller, number) {
         Some(call) => tells(call, caller, vector, reply),
@@ -236,7 +246,9 @@ fn call_at<'a>(history: &'a [Entry], caller: u64, number: usize) -> Option<&'a E
 // Whether no line that was answered full has a vector with a name.
 fn full_unnamed(trace: &[Vec<u32>], replies: &[Reply], later: &[Entry]) -> bool
     requires { length replies.now ≡ length trace.now }
-    ensures { IsTrue result ↔ ((i : ℕ) (v : h.Vector) (reply : Reply) → slice_get (map (λ v. v.items) trace.now) i ≡ Some v → slice_get replies.now i ≡ Some reply
+    ensures { IsTrue result ↔
+        ((i : ℕ) (v : h.Vector) (reply : Reply) → slice_get (map (λ v. v.items) trace.now) i ≡ Some v
+        → slice_get replies.now i ≡ Some reply
         → answers.is_full reply ≡ true → h.name_of later.now v ≡ None) }
 {
     for i in 0..trace.len() {
@@ -250,7 +262,9 @@ fn full_unnamed(trace: &[Vec<u32>], replies: &[Reply], later: &[Entry]) -> bool
 // Whether each call after the earlier ones is by one of these callers.
 fn no_others(earlier: &[Entry], later: &[Entry], callers: &[u64]) -> bool
     requires { Extends earlier.now later.now }
-    ensures { IsTrue result ↔ ((more : h.History) → later.now ≡ earlier.now ++ more → (e : h.Entry) → Contains more e → Contains callers.now e.caller) }
+    ensures { IsTrue result ↔
+        ((more : h.History) → later.now ≡ earlier.now ++ more → (e : h.Entry) → Contains more e
+        → Contains callers.now e.caller) }
 {
     for i in earlier.len()..later.len() {
         let call = &later[i];

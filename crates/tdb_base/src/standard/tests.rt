@@ -45,7 +45,8 @@ fn errors_of_a_reader_are_counted(rt: HostRuntime) {
     assert!(rt; source.faults == 1);
 }
 
-// Takes at most three bytes a call, fails at the second write, takes nothing at the third, and fails at the first flush.
+// Takes at most three bytes a call, fails at the second write, takes nothing at the third, and fails at the
+// first flush.
 #[derive(Drop)]
 struct Choppy {
     got: Vec<u8>,

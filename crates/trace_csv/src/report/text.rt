@@ -1,3 +1,4 @@
+//! The report's text goes to a sink.
 ghost use Rattle.std.specs.Prelude.{◌≡◌, ◌+◌, ◌≤◌, ◌++◌, Some, length, true, OnOk, OnErr, count_by};
 ghost use Rattle.std.specs.Io.KnownBytes.{Appends};
 ghost use Rattle.tdb_base.specs.Causes.{HasCause};
@@ -13,7 +14,8 @@ use tdb_base::{Reply, Sink};
 
 /// A line for each reply, numbered from 1, and then the summary; after that the sink has finished.
 ///
-/// `WriteFault` comes only where the sink's count of faults rose, and the sink then took a prefix of the text.
+/// `WriteFault` comes only where the sink's count of faults rose, and the sink then took a prefix of the
+/// text.
 pub fn write_report<K: Sink>(
     replies: &[Reply],
     summary: &Summary,
@@ -21,9 +23,11 @@ pub fn write_report<K: Sink>(
 ) -> Result<(), WriteFault>
     requires lines { summary.now.lines ≡ length replies.now }
     requires distinct { summary.now.distinct ≡ count_by is_new replies.now }
-    ensures ok { OnOk result (Appends (K.taken sink.old) (K.taken sink.new) (report replies.now summary.now)) }
+    ensures ok { OnOk result
+        (Appends (K.taken sink.old) (K.taken sink.new) (report replies.now summary.now)) }
     ensures settled { OnOk result (K.settled sink.new ≡ true) }
-    ensures front { OnErr result (TakesFront (K.taken sink.old) (K.taken sink.new) (report replies.now summary.now)) }
+    ensures front { OnErr result
+        (TakesFront (K.taken sink.old) (K.taken sink.new) (report replies.now summary.now)) }
     ensures cause { HasCause (K.faults sink.old) (K.faults sink.new) result }
 {
     let mut page = Page::new();
@@ -41,7 +45,8 @@ pub fn write_report<K: Sink>(
 pub fn write_summary<K: Sink>(summary: &Summary, sink: &mut K) -> Result<(), WriteFault>
     ensures ok { OnOk result (Appends (K.taken sink.old) (K.taken sink.new) (summary_text summary.now)) }
     ensures settled { OnOk result (K.settled sink.new ≡ true) }
-    ensures front { OnErr result (TakesFront (K.taken sink.old) (K.taken sink.new) (summary_text summary.now)) }
+    ensures front { OnErr result
+        (TakesFront (K.taken sink.old) (K.taken sink.new) (summary_text summary.now)) }
     ensures cause { HasCause (K.faults sink.old) (K.faults sink.new) result }
 {
     let mut page = Page::new();

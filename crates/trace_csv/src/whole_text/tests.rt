@@ -1,3 +1,4 @@
+//! Whole texts over sinks that fail.
 use super::write_text;
 use crate::WriteFault;
 use std::test::Fail;

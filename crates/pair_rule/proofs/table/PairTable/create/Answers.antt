@@ -26,7 +26,7 @@ of_words-requires g c =
     let count : (1 + c.bucket_count.result) + c.words-root_words.result ≡ suc (size (node_buckets about)) + c.words-root_words.result = omega (arith, c.bucket_count.ensures.same) in
     subst (λ (v : View g.row.R-View.Denot). Kept about (g.R.RootPart.part.roots about) (g.R.RootPart.holds about) (opening c.as_slice.result.now [] v)) (sym c.of.ensures)
     (opens_words _ about g.R.RootPart.part.roots (g.R.RootPart.holds about) c.as_slice.result.now (g.R.RootPart.first about) ((1 + c.bucket_count.result) + c.words-root_words.result) []
-    (c.as_slice.ensures.value ∙ c.in_ok-words.ensures) count c.requires.least_nodes (g.met.R.RootPart.roots_first about) (λ ws long zero. g.met.R.RootPart.starts about ws is long zero))
+    (c.as_slice.ensures.value ∙ c.in_ok-words.ensures) count c.requires.least_nodes (g.met.R.RootPart.roots_first about) (λ ws long zero. g.met.R.RootPart.starts about ws refl refl is long zero))
 
 pub invariant_of-result : goal.invariant_of-result
 unfolding size
@@ -63,7 +63,7 @@ returns-clause-rest g c =
     let is : IsAbout g.R.RootPart.part.sized g.R.RootPart.part.count about = record { range = c.requires; root_words_are = c.words-root_words.ensures.all; root_words_small = c.words-root_words.ensures.small } in
     let count : (1 + c.bucket_count.result) + c.words-root_words.result ≡ suc (size (node_buckets about)) + c.words-root_words.result = omega (arith, c.bucket_count.ensures.same) in
     let kept = opens_words _ about g.R.RootPart.part.roots (g.R.RootPart.holds about) c.as_slice.result.now (g.R.RootPart.first about) ((1 + c.bucket_count.result) + c.words-root_words.result) []
-    (c.as_slice.ensures.value ∙ c.in_ok-words.ensures) count c.requires.least_nodes (g.met.R.RootPart.roots_first about) (λ ws long zero. g.met.R.RootPart.starts about ws is long zero) in
+    (c.as_slice.ensures.value ∙ c.in_ok-words.ensures) count c.requires.least_nodes (g.met.R.RootPart.roots_first about) (λ ws long zero. g.met.R.RootPart.starts about ws refl refl is long zero) in
     let e = c.in_ok-table.ensures in
     let b = c.in_ok-buffers.ensures in
     let store : Store = record { table = c.in_ok-table.table.shared.table_id; about = about } in
