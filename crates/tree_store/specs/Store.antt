@@ -13,7 +13,7 @@ use Rattle.pair_rule.specs.View.{face}
 use Rattle.pair_rule.specs.Rest.{AtRest, view, last_vector}
 use Rattle.pair_rule.specs.Plays.{Caught}
 use Rattle.pair_rule.specs.Calls.{call, KeepsBuffers}
-use Rattle.tree_store.specs.Vectors.{puts_after, raised, RaisedWithin, Gained, Refused}
+use Rattle.tree_store.specs.Vectors.{IsBlockedRoot, puts_after, raised, RaisedWithin, Gained, Refused}
 
 -- the reply that names a vector: whether it is new, and its identifier
 abbrev pub naming : Bool → ℕ → Reply
@@ -54,9 +54,7 @@ module _ {T : Type 0} (part : Part T) where
 
   -- the vector has a root pair for which there is no place
   abbrev pub HasBlockedRoot : About → View T → Vector → Type 0
-  HasBlockedRoot about v vector =
-      (pair : ℕ) × RootStands about.width about.slots v.known pair vector
-      × part.is_full about (root_pairs part v) pair
+  HasBlockedRoot about v vector = IsBlockedRoot about v.known (part.is_full about (root_pairs part v)) vector
 
 module _ {T : Type 0} where
   -- the tree that was put is the last one

@@ -52,7 +52,7 @@ pub record IsBlockedInside (about : About) (nodes : List (ℕ × ℕ)) (v : Vect
   pub right_stands : Stands about.width about.slots nodes v (2 * position + 1) right
   pub blocked : Blocked (node_buckets about) nodes (pair_of about.width left right)
 
--- the vector's root pair is one for which there is no place among the roots
+-- there is no place for the vector's root pair among the roots, of which this says for which pairs so
 abbrev pub IsBlockedRoot : About → List (ℕ × ℕ) → (ℕ → Type 0) → Vector → Type 0
 IsBlockedRoot about nodes IsBlocked v = (pair : ℕ) × RootStands about.width about.slots nodes pair v
     × IsBlocked pair

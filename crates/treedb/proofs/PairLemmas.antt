@@ -26,6 +26,6 @@ packed-one width (left ∷ right ∷ []) (l ∷ r ∷ []) id p q a b =
     let first : left * 2 ^ width + right ≡ id = cc a in
     let second : l * 2 ^ width + r ≡ id = cc b in
     let same = same_from_place left right l r (2 ^ width) p.1 q.1 (omega (arith, first, second)) in
-    let lefts : left ≡ l = same.0 in
+    let after_splits : left ≡ l = same.0 in
     let rights : right ≡ r = same.1 in
-    cc (lefts, rights)
+    cc (after_splits, rights)

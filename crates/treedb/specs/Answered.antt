@@ -34,7 +34,7 @@ pub record CountsOf (about : About) (v : View Roots) (stats : Stats) : Type 0 wh
 
 -- the replies to the lines form one history of workers who are numbered from 0, a plain store stands behind
 -- them, and where the job prints vectors the named ones were read back
-pub record IsAnswered (c : Choice) (trace : List Vector) (answered : Answered) : Type 0 where
+pub record AreAnswered (c : Choice) (trace : List Vector) (answered : Answered) : Type 0 where
   pub history : History
   pub agrees : Agrees (flag_count c.profile) trace answered.replies.items c.workers c.block [] history
       (range_with_len 0 c.workers)

@@ -7,11 +7,11 @@ ghost use Rattle.pair_rule.specs.View.{newcomer};
 ghost use Rattle.root_plain.specs.Plain.{nothing_known, plain};
 ghost use Rattle.tree_store.specs.Ranges.{NodesFit, RootsFit, ProbeFits};
 ghost use Rattle.tree_store.specs.Vectors.{IsVector};
-ghost use Rattle.work_run.specs.Crew.{Unused};
+ghost use Rattle.work_run.specs.Workers.{Unused};
 ghost use Rattle.command_line.specs.Sizes.{AreTableSizes};
 ghost use Rattle.command_line.specs.Valid.{IsValid};
 ghost use Rattle.treedb.specs.Offered.{flag_count};
-ghost use Rattle.treedb.specs.Answered.{IsAnswered, AreSizesOf, CountsOf};
+ghost use Rattle.treedb.specs.Answered.{AreAnswered, AreSizesOf, CountsOf};
 ghost use Rattle.treedb.specs.ReadBack.{AwaitsLines, IfPrinted};
 ghost use Rattle.treedb.specs.Stored.{AreTold, IsAboutChoice};
 
@@ -120,7 +120,7 @@ fn insert_lines<R: Threads + Sync, G: Gate, const W: u32, const F: u32>(
     requires lines { length trace.now ≤ 2 ^ 32 }
     requires fit { All (IsVector store.now.about) trace.now }
     requires room { IfPrinted choice.now.job room (AwaitsLines store.now.about.slots (length trace.now)) }
-    ensures answered { IfOk result (IsAnswered choice.now trace.now) }
+    ensures answered { IfOk result (AreAnswered choice.now trace.now) }
     ensures refused { OnErr result (Unused pass.old pass.new) }
 {
     let replies = run_lines(
@@ -156,7 +156,7 @@ fn insert_into<R: Threads + Sync, G: Gate, const W: u32, const F: u32>(
     requires layout { IsLayout W F }
     requires lines { length trace.now ≤ 2 ^ 32 }
     requires below { All (λ line. All (λ n. n < 2 ^ W) line) trace.now }
-    ensures { IfOk result (IsAnswered choice.now trace.now) }
+    ensures { IfOk result (AreAnswered choice.now trace.now) }
 {
     let slots = trace.slots();
     let sizes = store_sizes(choice, slots, trace.len());
@@ -181,7 +181,7 @@ pub fn insert_plain<R: Threads + Sync, G: Gate>(
     requires plain { choice.now.mode ≡ Mode.Plain }
     requires lines { length trace.now ≤ 2 ^ 32 }
     requires below { All (λ line. All (λ n. n < 2 ^ choice.now.profile) line) trace.now }
-    ensures { IfOk result (IsAnswered choice.now trace.now) }
+    ensures { IfOk result (AreAnswered choice.now trace.now) }
 {
     match choice.profile {
         16 => insert_into::<R, G, 16, 8>(rt, alloc, choice, trace, gate),

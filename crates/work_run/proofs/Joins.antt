@@ -12,27 +12,27 @@ use Rattle.pair_rule.specs.View.{joined_view}
 use Rattle.pair_rule.proofs.Lists.{has_front, has_back}
 use Rattle.pair_rule.proofs.Histories.{extends_refl, extends_trans}
 use Rattle.work_run.specs.declared.worker.Worker.{Worker}
-use Rattle.work_run.specs.Crew.{joints, Joined}
+use Rattle.work_run.specs.Workers.{after_joins, AreJoined}
 use Rattle.work_run.proofs.Elements.{has_map}
 
 module _ {T : Type 0} (join : T → T → T) where
   -- the numbers of views that were joined into one are its numbers
-  pub numbers_first : (v : View T) (ws : List (View T)) (c : ℕ) → Has c v.numbers → Has c (joints join v ws).numbers
+  pub numbers_first : (v : View T) (ws : List (View T)) (c : ℕ) → Has c v.numbers → Has c (after_joins join v ws).numbers
   numbers_first v [] c h = h
-  numbers_first v (w ∷ ws) c h = has_front c (joints join v ws).numbers w.numbers (numbers_first v ws c h)
+  numbers_first v (w ∷ ws) c h = has_front c (after_joins join v ws).numbers w.numbers (numbers_first v ws c h)
 
-  pub numbers_other : (v w : View T) (ws : List (View T)) (c : ℕ) → Has w ws → Has c w.numbers → Has c (joints join v ws).numbers
+  pub numbers_other : (v w : View T) (ws : List (View T)) (c : ℕ) → Has w ws → Has c w.numbers → Has c (after_joins join v ws).numbers
   numbers_other v w [] c h n = absurd h
   numbers_other v w (u ∷ ws) c h n = ⊎_elim
-      (λ (e : w ≡ u). has_back c (joints join v ws).numbers u.numbers (subst (λ (x : View T). Has c x.numbers) e n))
-      (λ (t : Has w ws). has_front c (joints join v ws).numbers u.numbers (numbers_other v w ws c t n))
+      (λ (e : w ≡ u). has_back c (after_joins join v ws).numbers u.numbers (subst (λ (x : View T). Has c x.numbers) e n))
+      (λ (t : Has w ws). has_front c (after_joins join v ws).numbers u.numbers (numbers_other v w ws c t n))
       h
 
 module _ {T : Type 0} (part : Part T) (store : Store) where
   pub taken_same : (v : View T) → HasTaken part v v
   taken_same v = record { seen = extends_refl v.seen; calls = λ c h. refl; known = λ i x h. h; roots = λ i x h. h }
 
-  pub joined_none : (p : PassOf T) → AtRest part store p → Joined part store p p []
+  pub joined_none : (p : PassOf T) → AtRest part store p → AreJoined part store p p []
   joined_none p rests = record { rest = rests; pass_is = refl; view_is = refl; base_taken = taken_same (view p); taken = λ q h. absurd h }
 
   taken_then : (u v w : View T) → HasTaken part u v → HasTaken part v w → ((c : ℕ) → Has c u.numbers → Has c v.numbers) → HasTaken part u w
@@ -44,13 +44,13 @@ module _ {T : Type 0} (part : Part T) (store : Store) where
   }
 
   -- one more pass, as a join tells
-  pub joined_more : (base old new p : PassOf T) (others : List (PassOf T)) → Joined part store base old others
+  pub joined_more : (base old new p : PassOf T) (others : List (PassOf T)) → AreJoined part store base old others
       → AtRest part store new
       → view new ≡ joined_view part.join (view old) (view p)
       → HasTaken part (view old) (view new)
       → HasTaken part (view p) (view new)
       → new ≡ record old { seat = new.seat; nodes_count = new.nodes_count; names_count = new.names_count }
-      → Joined part store base new (p ∷ others)
+      → AreJoined part store base new (p ∷ others)
   joined_more base old new p others j rests is all theirs same = record {
     rest = rests;
     pass_is = same ∙ (λ i. record (j.pass_is i) { seat = new.seat; nodes_count = new.nodes_count; names_count = new.names_count });
@@ -67,7 +67,7 @@ module _ {T : Type 0} (part : Part T) (store : Store) where
     pub done : List (Worker T)
     pub whole : crew ≡ left ++ done
     pub stay : All (λ (w : Worker T). AtRest part store w.pass) left
-    pub joined : Joined part store base now (map (λ (w : Worker T). w.pass) done)
+    pub joined : AreJoined part store base now (map (λ (w : Worker T). w.pass) done)
 
   pub dismissing_none : (p : PassOf T) (crew : List (Worker T)) → AtRest part store p → All (λ (w : Worker T). AtRest part store w.pass) crew → Dismissing p p crew crew
   dismissing_none p crew rests all = record { done = []; whole = sym (append-nil crew); stay = all; joined = joined_none p rests }

@@ -4,7 +4,7 @@ pub mod Stepping
 pub mod Mine
 pub mod Elements
 pub mod Joins
-pub mod Hires
+pub mod SplitInTurn
 pub mod Answered
 pub mod Running
 pub mod Few

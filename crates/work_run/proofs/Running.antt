@@ -1,4 +1,4 @@
--- What a run leaves: workers are hired, insert their lines, and are dismissed.
+-- What a run leaves: workers are split, insert their lines, and are dismissed.
 use Rattle.std.proofs.Common.{◌≡◌, ◌⊎◌, ℕ, zero, suc, ◌+◌, ◌*◌, ◌/◌, ◌%◌, ◌<◌, ◌≤◌, List, [], ◌∷◌, ◌++◌, length, get_or, map, false, Option, Some, None, refl, sym, ap, ◌∙◌, subst, inl, inr, ⊎_elim, arith, length-append}
 use Rattle.std.specs.Prelude.{All, Contains, slice_get, sum}
 use Rattle.std.specs.List.{filter_map, range_with_len}
@@ -29,7 +29,7 @@ use Rattle.pair_rule.specs.Part.{Store, Part, root_pairs}
 use Rattle.pair_rule.specs.Splits.{HasTaken}
 use Rattle.pair_nodes.specs.Roots.{Refusals}
 use Rattle.work_run.specs.declared.worker.Worker.{Worker}
-use Rattle.work_run.specs.Crew.{lefts, joints, IsHired, Hired, Joined}
+use Rattle.work_run.specs.Workers.{after_splits, after_joins, IsSplitWorker, AreSplitWorkers, AreJoined}
 use Rattle.work_run.specs.Full.{IsOfOne}
 use Rattle.work_run.specs.Inserted.{puts_of, Inserted}
 use Rattle.work_run.specs.Work.{HasAnswered}
@@ -37,49 +37,49 @@ use Rattle.work_run.specs.Ran.{HasRun, KeepsPass, OneHistory, FullAreBarred, New
 use Rattle.work_run.proofs.Answered.{barred_more, of_one_more}
 use Rattle.work_run.proofs.Dealing.{mine-turn}
 use Rattle.work_run.proofs.Elements.{has_or_not, has_map, has_unmap, has_place, placed, numbered_at, at_numbered}
-use Rattle.work_run.proofs.Hires.{given, lefts_stay, whole_again}
+use Rattle.work_run.proofs.SplitInTurn.{given, after_splits_stay, whole_again}
 use Rattle.work_run.proofs.Joins.{numbers_first, numbers_other}
 use Rattle.work_run.proofs.Mine.{picked_at, picked_has}
 
 module _ {T : Type 0} where
-  lefts_splits : (n : ℕ) (v : View T) → (lefts n v).splits ≡ v.splits + n
-  lefts_splits zero v = omega arith
-  lefts_splits (suc n) v = let h = lefts_splits n v in omega (arith, h)
+  after_splits_splits : (n : ℕ) (v : View T) → (after_splits n v).splits ≡ v.splits + n
+  after_splits_splits zero v = omega arith
+  after_splits_splits (suc n) v = let h = after_splits_splits n v in omega (arith, h)
 
   -- different passes that were split from one have different numbers
   given_differ : (v : View T) (j k : ℕ) → given v j ≡ given v k → j ≡ k
   given_differ v j k same =
-      let both = child_same (lefts j v).number (lefts k v).number (lefts j v).splits (lefts k v).splits same in
-      omega (arith, both.1, lefts_splits j v, lefts_splits k v)
+      let both = child_same (after_splits j v).number (after_splits k v).number (after_splits j v).splits (after_splits k v).splits same in
+      omega (arith, both.1, after_splits_splits j v, after_splits_splits k v)
 
   module _ (join : T → T → T) where
-    numbers_either : (v : View T) (ws : List (View T)) (c : ℕ) → Has c (joints join v ws).numbers → Has c v.numbers ⊎ ((w : View T) × Has w ws × Has c w.numbers)
+    numbers_either : (v : View T) (ws : List (View T)) (c : ℕ) → Has c (after_joins join v ws).numbers → Has c v.numbers ⊎ ((w : View T) × Has w ws × Has c w.numbers)
     numbers_either v [] c h = inl h
     numbers_either v (w ∷ ws) c h = ⊎_elim
-        (λ (a : Has c (joints join v ws).numbers). ⊎_elim
+        (λ (a : Has c (after_joins join v ws).numbers). ⊎_elim
         (λ (b : Has c v.numbers). inl b)
         (λ (f : (u : View T) × Has u ws × Has c u.numbers). let found : (u : View T) × Has u (w ∷ ws) × Has c u.numbers = (f.0, inr f.1, f.2) in inr found)
         (numbers_either v ws c a))
         (λ (b : Has c w.numbers). let found : (u : View T) × Has u (w ∷ ws) × Has c u.numbers = (w, inl refl, b) in inr found)
-        (has_either c (joints join v ws).numbers w.numbers h)
+        (has_either c (after_joins join v ws).numbers w.numbers h)
 
-    made_either : (v : View T) (ws : List (View T)) (i : ℕ) → Has i (joints join v ws).made → Has i v.made ⊎ ((w : View T) × Has w ws × Has i w.made)
+    made_either : (v : View T) (ws : List (View T)) (i : ℕ) → Has i (after_joins join v ws).made → Has i v.made ⊎ ((w : View T) × Has w ws × Has i w.made)
     made_either v [] i h = inl h
     made_either v (w ∷ ws) i h = ⊎_elim
-        (λ (a : Has i (joints join v ws).made). ⊎_elim
+        (λ (a : Has i (after_joins join v ws).made). ⊎_elim
         (λ (b : Has i v.made). inl b)
         (λ (f : (u : View T) × Has u ws × Has i u.made). let found : (u : View T) × Has u (w ∷ ws) × Has i u.made = (f.0, inr f.1, f.2) in inr found)
         (made_either v ws i a))
         (λ (b : Has i w.made). let found : (u : View T) × Has u (w ∷ ws) × Has i u.made = (w, inl refl, b) in inr found)
-        (has_either i (joints join v ws).made w.made h)
+        (has_either i (after_joins join v ws).made w.made h)
 
-    joints_number : (v : View T) (ws : List (View T)) → (joints join v ws).number ≡ v.number
-    joints_number v [] = refl
-    joints_number v (w ∷ ws) = joints_number v ws
+    after_joins_number : (v : View T) (ws : List (View T)) → (after_joins join v ws).number ≡ v.number
+    after_joins_number v [] = refl
+    after_joins_number v (w ∷ ws) = after_joins_number v ws
 
     -- the probes of views that were joined into one
     probes_within : (v : View T) (ws : List (View T)) (most : ℕ → ℕ) (from : ℕ) → ((j : ℕ) (d : View T) → j < length ws → (get_or ws j d).probes ≤ most (from + j))
-        → (joints join v ws).probes ≤ v.probes + sum (map most (range_with_len from (length ws)))
+        → (after_joins join v ws).probes ≤ v.probes + sum (map most (range_with_len from (length ws)))
     probes_within v [] most from each = omega arith
     probes_within v (w ∷ ws) most from each =
         let rest = probes_within v ws most (from + 1) (λ j d lt. let h = each (suc j) d (omega arith) in let e : from + suc j ≡ (from + 1) + j = omega arith in subst (λ (n : ℕ). (get_or ws j d).probes ≤ most n) e h) in
@@ -88,23 +88,23 @@ module _ {T : Type 0} where
 
 -- each worker that answered has a reply for each of its lines
 pub replies_each : {T : Type 0} (part : Part T) (store : Store) (rooms : ℕ → ℕ) (base now : PassOf T) (trace : List Vector) (workers block : ℕ) (crew after : List (Worker T))
-    → Hired part store rooms base now crew → length crew ≡ workers
+    → AreSplitWorkers part store rooms base now crew → length crew ≡ workers
     → ((j : ℕ) (d : Worker T) → j < length crew → HasAnswered part store trace workers block (get_or crew j d) (get_or after j d)) → length after ≡ length crew
     → (j : ℕ) (d : Worker T) → j < length after → length (get_or after j d).replies.items ≡ length (mine (length trace) (length after) block j)
-replies_each part store rooms base now trace workers block crew after hired all_hired answered all_after j d lt =
+replies_each part store rooms base now trace workers block crew after split all_split answered all_after j d lt =
     let a = answered j d (omega arith) in
-    let number = (hired.each j d (omega arith)).number_is in
+    let number = (split.each j d (omega arith)).number_is in
     let places = mine (length trace) workers block j in
     let same : length (picked trace (mine (length trace) workers block (get_or crew j d).number)) ≡ length (picked trace places) = ap (λ (n : ℕ). length (picked trace (mine (length trace) workers block n))) number in
-    let long : workers ≡ length after = omega (arith, all_after, all_hired) in
+    let long : workers ≡ length after = omega (arith, all_after, all_split) in
     a.inserted.one_each ∙ (same ∙ (picked_length trace places (mine_below (length trace) workers block j) ∙ ap (λ (n : ℕ). length (mine (length trace) n block j)) long))
 
 module _ {T : Type 0} (part : Part T) (refusals : Refusals part) (store : Store) (rooms : ℕ → ℕ) (base now new : PassOf T) (trace : List Vector) (replies : List Reply) (workers block : ℕ)
-    (crew after : List (Worker T)) (hired : Hired part store rooms base now crew) (all_hired : length crew ≡ workers) (some : 1 ≤ workers) (any : 1 ≤ block)
+    (crew after : List (Worker T)) (split : AreSplitWorkers part store rooms base now crew) (all_split : length crew ≡ workers) (some : 1 ≤ workers) (any : 1 ≤ block)
     (answered : (j : ℕ) (d : Worker T) → j < length crew → HasAnswered part store trace workers block (get_or crew j d) (get_or after j d)) (all_after : length after ≡ length crew)
     (one_each : length replies ≡ length trace)
     (are_placed : (j : ℕ) (d : Worker T) → j < length after → picked replies (mine (length trace) (length after) block j) ≡ (get_or after j d).replies.items)
-    (joint : Joined part store now new (map (λ (w : Worker T). w.pass) after)) where
+    (joint : AreJoined part store now new (map (λ (w : Worker T). w.pass) after)) where
   abbrev v0 : View T
   v0 = view base
 
@@ -123,7 +123,7 @@ module _ {T : Type 0} (part : Part T) (refusals : Refusals part) (store : Store)
     pass : PassOf T
     there : Has pass passes
     here : (d : Worker T) → (get_or after j d).pass ≡ pass
-    start_is : view start ≡ child_view part.split (lefts j v0)
+    start_is : view start ≡ child_view part.split (after_splits j v0)
     start_tree : last_vector start ≡ None
     fresh : calls v0.seen (given v0 j) ≡ []
     inserted : Inserted part store (picked trace (lines_of j)) (picked replies (lines_of j)) start pass
@@ -135,21 +135,21 @@ module _ {T : Type 0} (part : Part T) (refusals : Refusals part) (store : Store)
   mate j lt =
       let p = placed after j (omega arith) in
       let q = placed crew j (omega arith) in
-      let h = hired.each j q.one (omega arith) in
+      let h = split.each j q.one (omega arith) in
       let a = answered j p.one (omega arith) in
       let start = get_or crew j p.one in
-      let is_hired = subst (λ (w : Worker T). IsHired part store (lefts j v0) j (rooms j) w) (q.here q.one ∙ sym (q.here p.one)) h in
-      let number : start.number ≡ j = is_hired.number_is in
+      let is_split = subst (λ (w : Worker T). IsSplitWorker part store (after_splits j v0) j (rooms j) w) (q.here q.one ∙ sym (q.here p.one)) h in
+      let number : start.number ≡ j = is_split.number_is in
       let mine_replies : (get_or after j p.one).replies.items ≡ picked replies (lines_of j) =
-      sym (are_placed j p.one (omega arith)) ∙ ap (λ (n : ℕ). picked replies (mine (length trace) n block j)) (all_after ∙ all_hired) in
+      sym (are_placed j p.one (omega arith)) ∙ ap (λ (n : ℕ). picked replies (mine (length trace) n block j)) (all_after ∙ all_split) in
       record {
         start = start.pass;
         pass = p.one.pass;
         there = has_map (λ (w : Worker T). w.pass) p.one after p.there;
         here = λ d. ap (λ (w : Worker T). w.pass) (p.here d);
-        start_is = is_hired.view_is;
-        start_tree = untreed start.pass is_hired.no_tree;
-        fresh = ap (λ (h : History). calls h (given v0 j)) (sym (lefts_stay j v0).seen) ∙ subst (λ (n : ℕ). calls (lefts j v0).seen n ≡ []) (ap (λ (u : View T). u.number) is_hired.view_is) is_hired.unknown.no_calls;
+        start_is = is_split.view_is;
+        start_tree = untreed start.pass is_split.no_tree;
+        fresh = ap (λ (h : History). calls h (given v0 j)) (sym (after_splits_stay j v0).seen) ∙ subst (λ (n : ℕ). calls (after_splits j v0).seen n ≡ []) (ap (λ (u : View T). u.number) is_split.view_is) is_split.unknown.no_calls;
         inserted = subst (λ (w : Worker T). Inserted part store (picked trace (lines_of j)) (picked replies (lines_of j)) start.pass w.pass) (p.here p.one)
             (subst (λ (r : List Reply). Inserted part store (picked trace (lines_of j)) r start.pass (get_or after j p.one).pass) mine_replies
             (subst (λ (n : ℕ). Inserted part store (picked trace (lines_of n)) (get_or after j p.one).replies.items start.pass (get_or after j p.one).pass) number a.inserted));
@@ -161,13 +161,13 @@ module _ {T : Type 0} (part : Part T) (refusals : Refusals part) (store : Store)
       let p = has_unmap (λ (p : PassOf T). view p) u passes h in
       let w = has_unmap (λ (w : Worker T). w.pass) p.0 after p.1 in
       let place = has_place w.0 after w.1 in
-      let lt : place.0 < workers = omega (arith, place.1, all_after, all_hired) in
+      let lt : place.0 < workers = omega (arith, place.1, all_after, all_split) in
       let m = mate place.0 lt in
       (place.0, lt, p.2 ∙ (ap (λ (q : PassOf T). view q) (w.2 ∙ ap (λ (x : Worker T). x.pass) (sym place.2)) ∙ ap (λ (q : PassOf T). view q) (m.here w.0)))
 
   -- what the new view is
-  joined_is : view new ≡ joints part.join (lefts workers v0) views
-  joined_is = joint.view_is ∙ (λ i. joints part.join ((hired.view_is ∙ ap (λ (n : ℕ). lefts n v0) all_hired) i) views)
+  joined_is : view new ≡ after_joins part.join (after_splits workers v0) views
+  joined_is = joint.view_is ∙ (λ i. after_joins part.join ((split.view_is ∙ ap (λ (n : ℕ). after_splits n v0) all_split) i) views)
 
   numbers_of : (j : ℕ) (lt : j < workers) → (view (mate j lt).pass).numbers ≡ given v0 j ∷ []
   numbers_of j lt = let m = mate j lt in ap (λ f. f.numbers) m.inserted.face_is ∙ ap (λ (u : View T). u.numbers) m.start_is
@@ -198,7 +198,7 @@ module _ {T : Type 0} (part : Part T) (refusals : Refusals part) (store : Store)
       let n = given v0 j in
       let start : (view m.start).number ≡ n = ap (λ (u : View T). u.number) m.start_is in
       let own = subst (λ (x : ℕ). calls (view m.pass).seen x ≡ calls (view m.start).seen x ++ entries_of x (picked trace (lines_of j)) (picked replies (lines_of j))) start m.inserted.own in
-      let none : calls (view m.start).seen n ≡ [] = ap (λ (u : View T). calls u.seen n) m.start_is ∙ (ap (λ (h : History). calls h n) (lefts_stay j v0).seen ∙ m.fresh) in
+      let none : calls (view m.start).seen n ≡ [] = ap (λ (u : View T). calls u.seen n) m.start_is ∙ (ap (λ (h : History). calls h n) (after_splits_stay j v0).seen ∙ m.fresh) in
       (taken_of j lt).calls n (has_own j lt)
       ∙ (own ∙ (ap (λ (h : History). h ++ entries_of n (picked trace (lines_of j)) (picked replies (lines_of j))) none
       ∙ sym (entries_picked n trace replies (lines_of j) one_each (mine_below (length trace) workers block j))))
@@ -240,7 +240,7 @@ module _ {T : Type 0} (part : Part T) (refusals : Refusals part) (store : Store)
   among_run = record {
     one_each = one_each;
     legal = subst (λ (x : About). IsLegal x.flags (view new).seen) joint.rest.seat.about_is joint.rest.seat.sound.legal;
-    extends = subst (λ (h : History). Extends h (view new).seen) (ap (λ (u : View T). u.seen) (hired.view_is) ∙ (lefts_stay (length crew) v0).seen) joint.base_taken.seen;
+    extends = subst (λ (h : History). Extends h (view new).seen) (ap (λ (u : View T). u.seen) (split.view_is) ∙ (after_splits_stay (length crew) v0).seen) joint.base_taken.seen;
     callers_count = length-map-range_with_len (given v0) 0 workers;
     callers_differ = λ j k c a b.
         (let x = at_numbered (given v0) workers j c a in
@@ -267,7 +267,7 @@ module _ {T : Type 0} (part : Part T) (refusals : Refusals part) (store : Store)
       let at = at-contained callers c there in
       let x = at_numbered (given v0) workers at.0 c at.1 in
       subst (λ (n : ℕ). Has n (view new).numbers) (sym x.1)
-      (subst (λ (u : View T). Has (given v0 at.0) u.numbers) (sym joined_is) (numbers_other part.join (lefts workers v0) (view (mate at.0 x.0).pass) views (given v0 at.0) (has_view at.0 x.0) (has_own at.0 x.0)))
+      (subst (λ (u : View T). Has (given v0 at.0) u.numbers) (sym joined_is) (numbers_other part.join (after_splits workers v0) (view (mate at.0 x.0).pass) views (given v0 at.0) (has_view at.0 x.0) (has_own at.0 x.0)))
 
   -- whoever called since has more calls than before
   silent : (more : History) → (view new).seen ≡ v0.seen ++ more → (e : Entry) → Contains more e → length (calls (view new).seen e.caller) ≤ length (calls v0.seen e.caller) → ⊥
@@ -277,13 +277,13 @@ module _ {T : Type 0} (part : Part T) (refusals : Refusals part) (store : Store)
       let long = ap (λ (h : History). length h) whole ∙ length-append (calls v0.seen e.caller) (calls more e.caller) in
       calls-some more at.0 e at.1 (nil_from_length (calls more e.caller) (omega (arith, few, long)))
 
-  now_is : view now ≡ lefts workers v0
-  now_is = hired.view_is ∙ ap (λ (n : ℕ). lefts n v0) all_hired
+  now_is : view now ≡ after_splits workers v0
+  now_is = split.view_is ∙ ap (λ (n : ℕ). after_splits n v0) all_split
 
   old_calls : (c : ℕ) → Has c v0.numbers → calls (view new).seen c ≡ calls v0.seen c
   old_calls c h =
-      joint.base_taken.calls c (subst (λ (u : View T). Has c u.numbers) (sym now_is) (subst (λ (x : List ℕ). Has c x) (sym (lefts_stay workers v0).numbers) h))
-      ∙ ap (λ (u : History). calls u c) (ap (λ (u : View T). u.seen) now_is ∙ (lefts_stay workers v0).seen)
+      joint.base_taken.calls c (subst (λ (u : View T). Has c u.numbers) (sym now_is) (subst (λ (x : List ℕ). Has c x) (sym (after_splits_stay workers v0).numbers) h))
+      ∙ ap (λ (u : History). calls u c) (ap (λ (u : View T). u.seen) now_is ∙ (after_splits_stay workers v0).seen)
 
   -- who called is a worker
   caller_of : Whole v0 → (more : History) → (view new).seen ≡ v0.seen ++ more → (e : Entry) → Contains more e → Contains callers e.caller
@@ -293,12 +293,12 @@ module _ {T : Type 0} (part : Part T) (refusals : Refusals part) (store : Store)
       let all = joint.rest.seat.sound.whole (whole_run whole) in
       ⊎_elim
       (λ (h : Has c (view new).numbers). ⊎_elim
-      (λ (old : Has c (lefts workers v0).numbers). absurd (silent more is e there (let same = ap (λ (h : History). length h) (old_calls c (subst (λ (x : List ℕ). Has c x) (lefts_stay workers v0).numbers old)) in omega (arith, same))))
+      (λ (old : Has c (after_splits workers v0).numbers). absurd (silent more is e there (let same = ap (λ (h : History). length h) (old_calls c (subst (λ (x : List ℕ). Has c x) (after_splits_stay workers v0).numbers old)) in omega (arith, same))))
       (λ (f : (w : View T) × Has w views × Has c w.numbers).
       let m = mate_of f.0 f.1 in
       let own : Has c (given v0 m.0 ∷ []) = subst (λ (x : List ℕ). Has c x) (ap (λ (u : View T). u.numbers) m.2 ∙ numbers_of m.0 m.1) f.2 in
       ⊎_elim (λ (same : c ≡ given v0 m.0). contained-at callers c (m.0, numbered_at (given v0) workers m.0 m.1 ∙ ap Some (sym same))) (λ (no : ⊥). absurd no) own)
-      (numbers_either part.join (lefts workers v0) views c (subst (λ (u : View T). Has c u.numbers) joined_is h)))
+      (numbers_either part.join (after_splits workers v0) views c (subst (λ (u : View T). Has c u.numbers) joined_is h)))
       (λ (none : Has c (view new).numbers → ⊥). absurd (silent more is e there (let nothing = ap (λ (h : History). length h) (all.callers c none) in omega (arith, nothing))))
       (has_or_not c (view new).numbers)
 
@@ -310,12 +310,12 @@ module _ {T : Type 0} (part : Part T) (refusals : Refusals part) (store : Store)
   pub nodes_run : NewNodesAreOfLines store.about trace v0 (view new)
   nodes_run whole index pair there =
       let all = joint.rest.seat.sound.whole (whole_run whole) in
-      let made : Has index (joints part.join (lefts workers v0) views).made = subst (λ (u : View T). Has index u.made) joined_is (all.made index pair there) in
+      let made : Has index (after_joins part.join (after_splits workers v0) views).made = subst (λ (u : View T). Has index u.made) joined_is (all.made index pair there) in
       ⊎_elim
-      (λ (old : Has index (lefts workers v0).made).
+      (λ (old : Has index (after_splits workers v0).made).
       let h = subst (λ (x : List ℕ). Has index x) (sym (ap (λ (u : View T). u.made) now_is)) old in
-      let k = hired.rest.seat.sound.made index h in
-      inl (k.0, subst (λ (x : List (ℕ × ℕ)). Has (index, k.0) x) (ap (λ (u : View T). u.known) now_is ∙ (lefts_stay workers v0).known) k.1))
+      let k = split.rest.seat.sound.made index h in
+      inl (k.0, subst (λ (x : List (ℕ × ℕ)). Has (index, k.0) x) (ap (λ (u : View T). u.known) now_is ∙ (after_splits_stay workers v0).known) k.1))
       (λ (f : (w : View T) × Has w views × Has index w.made).
       let t = mate_of f.0 f.1 in
       let m = mate t.0 t.1 in
@@ -326,7 +326,7 @@ module _ {T : Type 0} (part : Part T) (refusals : Refusals part) (store : Store)
       let o = of_one_more store.about (view m.pass).known (view new).known (picked trace (lines_of t.0)) index (taken_of t.0 t.1).known of in
       inr (o.0, picked_has trace (lines_of t.0) o.0 o.1, o.2))
       (m.inserted.made index here))
-      (made_either part.join (lefts workers v0) views index made)
+      (made_either part.join (after_splits workers v0) views index made)
 
   -- the probes
   few_probes : (j : ℕ) (lt : j < workers) → (view (mate j lt).pass).probes ≤ puts_of_worker store.about trace replies workers block j
@@ -338,7 +338,7 @@ module _ {T : Type 0} (part : Part T) (refusals : Refusals part) (store : Store)
 
   view_at : (j : ℕ) (d : View T) (lt : j < workers) → get_or views j d ≡ view (mate j lt).pass
   view_at j d lt =
-      let here : j < length after = omega (arith, all_after, all_hired) in
+      let here : j < length after = omega (arith, all_after, all_split) in
       let one = (placed after j here).one in
       get_or-map (λ (p : PassOf T). view p) passes j one.pass d (omega (arith, length-map after (λ (w : Worker T). w.pass)))
       ∙ (ap (λ (p : PassOf T). view p) (get_or-map (λ (w : Worker T). w.pass) after j one one.pass here) ∙ ap (λ (p : PassOf T). view p) ((mate j lt).here one))
@@ -346,22 +346,22 @@ module _ {T : Type 0} (part : Part T) (refusals : Refusals part) (store : Store)
   pub probes_run : (view new).probes ≤ v0.probes + puts_of_all store.about trace replies workers block
   probes_run =
       let most = puts_of_worker store.about trace replies workers block in
-      let long : length views ≡ workers = length-map passes (λ (p : PassOf T). view p) ∙ (length-map after (λ (w : Worker T). w.pass) ∙ (all_after ∙ all_hired)) in
-      let few = probes_within part.join (lefts workers v0) views most 0
+      let long : length views ≡ workers = length-map passes (λ (p : PassOf T). view p) ∙ (length-map after (λ (w : Worker T). w.pass) ∙ (all_after ∙ all_split)) in
+      let few = probes_within part.join (after_splits workers v0) views most 0
       (λ j d lt. (let inside : j < workers = omega (arith, long) in subst (λ (n : ℕ). (get_or views j d).probes ≤ most n) (let e : j ≡ 0 + j = omega arith in e)
       (subst (λ (u : View T). u.probes ≤ most j) (sym (view_at j d inside)) (few_probes j inside)))) in
       let same = ap (λ (u : View T). u.probes) joined_is in
       let total = ap (λ (n : ℕ). sum (map most (range_with_len 0 n))) long in
-      omega (arith, few, same, total, (lefts_stay workers v0).probes)
+      omega (arith, few, same, total, (after_splits_stay workers v0).probes)
 
   -- what the pass had
   kept_run : KeepsPass part base new
   kept_run =
-      let stay = lefts_stay workers v0 in
+      let stay = after_splits_stay workers v0 in
       record {
-        pass_is = joint.pass_is ∙ (λ i. record (hired.pass_is i) { seat = new.seat; nodes_count = new.nodes_count; names_count = new.names_count });
-        number = ap (λ (u : View T). u.number) joined_is ∙ (joints_number part.join (lefts workers v0) views ∙ stay.number);
-        numbers = λ c h. subst (λ (u : View T). Has c u.numbers) (sym joined_is) (numbers_first part.join (lefts workers v0) views c (subst (λ (x : List ℕ). Has c x) (sym stay.numbers) h));
+        pass_is = joint.pass_is ∙ (λ i. record (split.pass_is i) { seat = new.seat; nodes_count = new.nodes_count; names_count = new.names_count });
+        number = ap (λ (u : View T). u.number) joined_is ∙ (after_joins_number part.join (after_splits workers v0) views ∙ stay.number);
+        numbers = λ c h. subst (λ (u : View T). Has c u.numbers) (sym joined_is) (numbers_first part.join (after_splits workers v0) views c (subst (λ (x : List ℕ). Has c x) (sym stay.numbers) h));
         calls_stay = old_calls;
         known = λ i x h. joint.base_taken.known i x (subst (λ (y : List (ℕ × ℕ)). Has (i, x) y) (sym (ap (λ (u : View T). u.known) now_is ∙ stay.known)) h);
         roots = subst (λ (pairs : List (ℕ × ℕ)). IsPart pairs (root_pairs part (view new))) (ap (λ (u : View T). root_pairs part u) now_is ∙ (λ i. part.roots (stay.about i) (stay.seen i) (stay.root i))) joint.base_taken.roots;

@@ -2,6 +2,6 @@ pub mod Dealing
 pub mod ToCome
 pub mod Full
 pub mod Inserted
-pub mod Crew
+pub mod Workers
 pub mod Work
 pub mod Ran

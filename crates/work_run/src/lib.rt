@@ -2,7 +2,6 @@
 //! lines are cut into blocks of so many lines, and the blocks are dealt out to the workers in turn.
 #![tactic(auto)]
 
-mod crew;
 mod insert;
 mod lines;
 mod place;
@@ -10,6 +9,7 @@ mod run;
 mod turns;
 mod work;
 mod worker;
+mod workers;
 
 pub use lines::{line_of, lines_are_dealt_out};
 pub use run::{puts_are_few, run_lines};

@@ -3,12 +3,12 @@ ghost use Rattle.std.specs.Prelude.{◌≡◌, ◌≤◌, ◌^◌, IfOk, OnErr, 
 ghost use Rattle.pair_rule.specs.Rest.{AtRest};
 ghost use Rattle.root_plain.specs.Plain.{plain};
 ghost use Rattle.tree_store.specs.Vectors.{IsVector};
-ghost use Rattle.work_run.specs.Crew.{Unused};
+ghost use Rattle.work_run.specs.Workers.{Unused};
 ghost use Rattle.work_run.specs.Ran.{HasRun, FewPuts};
 
-use crate::crew::{join_workers, split_workers};
 use crate::place::place;
 use crate::work::work_at_once;
+use crate::workers::{join_workers, split_workers};
 use std::alloc::Global;
 use std::thread::Threads;
 use tdb_base::{Gate, NoMemory, Reply};

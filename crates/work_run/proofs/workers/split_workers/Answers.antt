@@ -3,23 +3,23 @@ use Rattle.tdb_base.specs.Lines.{mine}
 use Rattle.pair_rule.specs.declared.pass.PassOf.{PassOf}
 use Rattle.pair_rule.specs.Rest.{view}
 use Rattle.work_run.specs.declared.worker.Worker.{Worker}
-use Rattle.work_run.specs.Crew.{IsHired, Hired, Joined}
-use Rattle.work_run.proofs.Hires.{hired_none, hired_more, unused}
-use Rattle.work_run.proofs.crew.split_workers.Goals as goal
+use Rattle.work_run.specs.Workers.{IsSplitWorker, AreSplitWorkers, AreJoined}
+use Rattle.work_run.proofs.SplitInTurn.{split_none, split_more, unused}
+use Rattle.work_run.proofs.workers.split_workers.Goals as goal
 
 pub loop-number-init : goal.loop-number-init
 loop-number-init g c =
     let t = c.args.store.now in
     let rooms = λ (j : ℕ). length (mine c.args.lines c.args.workers c.args.block j) in
     record {
-      hired = subst (λ (x : List (Worker g.row.R-View.Denot)). Hired g.R.RootPart.part t rooms c.args.pass.now c.args.pass.now x)
-          (sym c.in_ok-crew.ensures.items) (hired_none g.R.RootPart.part t rooms c.args.pass.now c.requires.rest);
+      split = subst (λ (x : List (Worker g.row.R-View.Denot)). AreSplitWorkers g.R.RootPart.part t rooms c.args.pass.now c.args.pass.now x)
+          (sym c.in_ok-crew.ensures.items) (split_none g.R.RootPart.part t rooms c.args.pass.now c.requires.rest);
       so_many = ap (λ (x : List (Worker g.row.R-View.Denot)). length x) c.in_ok-crew.ensures.items;
       room = omega (arith, c.in_ok-crew.ensures.exact);
     }
 
 pub split_worker-requires : goal.split_worker-requires
-split_worker-requires g c = (omega arith, c.loop-number.invariant.hired.rest)
+split_worker-requires g c = (omega arith, c.loop-number.invariant.split.rest)
 
 pub loop-number-preserved : goal.loop-number-preserved
 loop-number-preserved g c =
@@ -31,11 +31,11 @@ loop-number-preserved g c =
     let new = c.split_worker.new.pass in
     let crew = c.loop-number.crew.items in
     let worker = c.in-Ok.worker in
-    let one = subst (λ (n : ℕ). IsHired g.R.RootPart.part t (view old) c.loop-number.number n worker) c.count_of-room.ensures e.hired in
-    let here = subst (λ (n : ℕ). IsHired g.R.RootPart.part t (view old) n (rooms n) worker) (sym inv.so_many) one in
-    let more = hired_more g.R.RootPart.part t rooms c.args.pass.now old new crew worker inv.hired e.rest e.view e.pass here in
+    let one = subst (λ (n : ℕ). IsSplitWorker g.R.RootPart.part t (view old) c.loop-number.number n worker) c.count_of-room.ensures e.split in
+    let here = subst (λ (n : ℕ). IsSplitWorker g.R.RootPart.part t (view old) n (rooms n) worker) (sym inv.so_many) one in
+    let more = split_more g.R.RootPart.part t rooms c.args.pass.now old new crew worker inv.split e.rest e.view e.pass here in
     record {
-      hired = subst (λ (x : List (Worker g.row.R-View.Denot)). Hired g.R.RootPart.part t rooms c.args.pass.now new x) (sym c.in-Ok-push.ensures.items) more;
+      split = subst (λ (x : List (Worker g.row.R-View.Denot)). AreSplitWorkers g.R.RootPart.part t rooms c.args.pass.now new x) (sym c.in-Ok-push.ensures.items) more;
       so_many = ap (λ (x : List (Worker g.row.R-View.Denot)). length x) c.in-Ok-push.ensures.items ∙ omega (arith, length-append crew (worker ∷ []), inv.so_many);
       room = omega (arith, c.in-Ok-push.ensures.capacity, inv.room);
     }
@@ -46,6 +46,6 @@ returns-in_default-clause-refused g c =
     let rooms = λ (j : ℕ). length (mine c.args.lines c.args.workers c.args.block j) in
     let crew = c.loop-number.crew.items in
     let new = c.join_workers.new.pass in
-    let from = λ (p : PassOf g.row.R-View.Denot). Joined g.R.RootPart.part t p new (map (λ (w : Worker g.row.R-View.Denot). w.pass) crew) in
-    unused g.R.RootPart.part t rooms c.args.pass.now c.loop-number.pass new crew c.loop-number.invariant.hired
+    let from = λ (p : PassOf g.row.R-View.Denot). AreJoined g.R.RootPart.part t p new (map (λ (w : Worker g.row.R-View.Denot). w.pass) crew) in
+    unused g.R.RootPart.part t rooms c.args.pass.now c.loop-number.pass new crew c.loop-number.invariant.split
     (subst from c.in_default.ensures.refused c.join_workers.ensures)

@@ -12,19 +12,19 @@ use Rattle.work_run.specs.declared.worker.Worker.{Worker}
 
 module _ {T : Type 0} where
   -- a view from which so many passes were split
-  abbrev pub lefts : ℕ → View T → View T
-  lefts zero v = v
-  lefts (suc n) v = parent_view (lefts n v)
+  abbrev pub after_splits : ℕ → View T → View T
+  after_splits zero v = v
+  after_splits (suc n) v = parent_view (after_splits n v)
 
   -- a view into which others were joined, the last in the list first
-  abbrev pub joints : (T → T → T) → View T → List (View T) → View T
-  joints join v [] = v
-  joints join v (w ∷ ws) = joined_view join (joints join v ws) w
+  abbrev pub after_joins : (T → T → T) → View T → List (View T) → View T
+  after_joins join v [] = v
+  after_joins join v (w ∷ ws) = joined_view join (after_joins join v ws) w
 
   module _ (part : Part T) (store : Store) where
-    -- the worker was hired, and has not begun: its pass was split from one with this view, and there is room
-    -- for so many replies
-    pub record IsHired (before : View T) (number room : ℕ) (worker : Worker T) : Type 0 where
+    -- the worker has not begun: its pass was split from one with this view, and there is room for so many
+    -- replies
+    pub record IsSplitWorker (before : View T) (number room : ℕ) (worker : Worker T) : Type 0 where
       pub number_is : worker.number ≡ number
       pub rest : AtRest part store worker.pass
       pub view_is : view worker.pass ≡ child_view part.split before
@@ -33,17 +33,17 @@ module _ {T : Type 0} where
       pub no_replies : worker.replies.items ≡ []
       pub room_is : room ≤ vec_capacity worker.replies
 
-    -- these workers were hired in turn, with passes that were split from one pass, and room for so many
+    -- these workers have not begun, with passes that were split from one pass in turn, and room for so many
     -- replies each
-    pub record Hired (rooms : ℕ → ℕ) (base now : PassOf T) (crew : List (Worker T)) : Type 0 where
+    pub record AreSplitWorkers (rooms : ℕ → ℕ) (base now : PassOf T) (crew : List (Worker T)) : Type 0 where
       pub rest : AtRest part store now
       pub pass_is : now ≡ record base { seat = now.seat }
-      pub view_is : view now ≡ lefts (length crew) (view base)
+      pub view_is : view now ≡ after_splits (length crew) (view base)
       pub each : (j : ℕ) (d : Worker T) → j < length crew
-          → IsHired (lefts j (view base)) j (rooms j) (slice_index_or crew j d)
+          → IsSplitWorker (after_splits j (view base)) j (rooms j) (slice_index_or crew j d)
 
     -- other passes were joined into one
-    pub record Joined (base now : PassOf T) (others : List (PassOf T)) : Type 0 where
+    pub record AreJoined (base now : PassOf T) (others : List (PassOf T)) : Type 0 where
       pub rest : AtRest part store now
       pub pass_is : now ≡ record base {
         seat = now.seat;
@@ -51,7 +51,7 @@ module _ {T : Type 0} where
         names_count =
             now.names_count;
       }
-      pub view_is : view now ≡ joints part.join (view base) (map view others)
+      pub view_is : view now ≡ after_joins part.join (view base) (map view others)
       pub base_taken : HasTaken part (view base) (view now)
       pub taken : (p : PassOf T) → Has p others → HasTaken part (view p) (view now)
 
@@ -64,6 +64,7 @@ module _ {T : Type 0} where
       names_count =
           new.names_count;
     }
+    pub number : (view new).number ≡ (view old).number
     pub seen : (view new).seen ≡ (view old).seen
     pub numbers : (c : ℕ) → Has c (view old).numbers → Has c (view new).numbers
     pub known : IsPart (view old).known (view new).known × IsPart (view new).known (view old).known

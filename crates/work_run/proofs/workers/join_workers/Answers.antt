@@ -7,9 +7,9 @@ use Rattle.pair_rule.specs.Splits.{HasTaken}
 use Rattle.pair_rule.specs.View.{joined_view}
 use Rattle.pair_rule.specs.Rest.{AtRest, view}
 use Rattle.work_run.specs.declared.worker.Worker.{Worker}
-use Rattle.work_run.specs.Crew.{Joined}
+use Rattle.work_run.specs.Workers.{AreJoined}
 use Rattle.work_run.proofs.Joins.{dismissing_none, dismissing_more}
-use Rattle.work_run.proofs.crew.join_workers.Goals as goal
+use Rattle.work_run.proofs.workers.join_workers.Goals as goal
 
 pub loop-worker-init : goal.loop-worker-init
 loop-worker-init g c = dismissing_none g.R.RootPart.part _ _ _ c.requires.rest c.requires.crew
@@ -45,5 +45,5 @@ returns g c =
     let none : c.loop-worker.left.items ≡ [] = nil_from_length c.loop-worker.left.items (omega (arith, c.loop-worker.left.ok, c.in_default.ensures.cases.0)) in
     let all : inv.done ≡ c.args.crew.items = sym (inv.whole ∙ ap (λ (x : List (Worker g.row.R-View.Denot)). x ++ inv.done) none) in
     subst
-    (λ (x : List (Worker g.row.R-View.Denot)). Joined g.R.RootPart.part t c.args.pass.now c.loop-worker.pass (map (λ (w : Worker g.row.R-View.Denot). w.pass) x))
+    (λ (x : List (Worker g.row.R-View.Denot)). AreJoined g.R.RootPart.part t c.args.pass.now c.loop-worker.pass (map (λ (w : Worker g.row.R-View.Denot). w.pass) x))
     all inv.joined

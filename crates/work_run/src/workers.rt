@@ -3,7 +3,7 @@ ghost use Rattle.std.specs.Prelude.{◌≡◌, ◌≤◌, ◌^◌, IfOk, OnOk, O
 ghost use Rattle.pair_rule.specs.Rest.{AtRest, view};
 ghost use Rattle.pair_rule.specs.View.{parent_view};
 ghost use Rattle.tdb_base.specs.Lines.{mine};
-ghost use Rattle.work_run.specs.Crew.{IsHired, Hired, Joined, Unused};
+ghost use Rattle.work_run.specs.Workers.{IsSplitWorker, AreSplitWorkers, AreJoined, Unused};
 
 use crate::lines::count_of;
 use crate::worker::Worker;
@@ -22,7 +22,7 @@ fn split_worker<R: RootPart<W, F>, const W: u32, const F: u32>(
 ) -> Result<Worker<R::View>, NoMemory>
     requires { AtRest R.part store.now pass.old }
     ensures rest { AtRest R.part store.now pass.new }
-    ensures hired { IfOk result (λ worker. IsHired R.part store.now (view pass.old) number room worker) }
+    ensures split { IfOk result (λ worker. IsSplitWorker R.part store.now (view pass.old) number room worker) }
     ensures view { OnOk result (view pass.new ≡ parent_view (view pass.old)) }
     ensures pass { OnOk result (pass.new ≡ record pass.old { seat = pass.new.seat }) }
     ensures refused { OnErr result (pass.new ≡ pass.old) }
@@ -46,8 +46,8 @@ pub(crate) fn split_workers<R: RootPart<W, F>, const W: u32, const F: u32>(
     requires workers { workers ≤ 64 }
     requires block { (1 ≤ block) × (block ≤ 65536) }
     requires lines { lines ≤ 2 ^ 32 }
-    ensures hired { IfOk result
-        (λ crew. Hired R.part store.now
+    ensures split { IfOk result
+        (λ crew. AreSplitWorkers R.part store.now
         (λ j. length (mine lines workers block j)) pass.old pass.new crew.items) }
     ensures all { IfOk result (λ crew. length crew.items ≡ workers) }
     ensures refused { OnErr result (Unused pass.old pass.new) }
@@ -75,7 +75,7 @@ pub(crate) fn join_workers<R: RootPart<W, F>, const W: u32, const F: u32>(
 )
     requires rest { AtRest R.part store.now pass.old }
     requires crew { All (λ w. AtRest R.part store.now w.pass) crew.items }
-    ensures { Joined R.part store.now pass.old pass.new (map (λ w. w.pass) crew.items) }
+    ensures { AreJoined R.part store.now pass.old pass.new (map (λ w. w.pass) crew.items) }
 {
     let mut left = crew;
     while let Some(worker) = left.pop() {

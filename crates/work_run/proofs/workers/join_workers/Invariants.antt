@@ -1,6 +1,6 @@
 use Rattle.std.specs.Prelude.{length}
 use Rattle.work_run.proofs.Joins.{Dismissing}
-use Rattle.work_run.proofs.crew.join_workers.Given as goal
+use Rattle.work_run.proofs.workers.join_workers.Given as goal
 
 abbrev pub invariant-loop-worker : goal.invariant-loop-worker
 invariant-loop-worker g l = Dismissing g.R.RootPart.part l.store l.fn.pass l.pass l.fn.crew.items l.left.items
