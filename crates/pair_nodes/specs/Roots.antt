@@ -4,6 +4,8 @@ use Rattle.packed_word.specs.Word.{pair_of}
 use Rattle.tree_shape.specs.Tree.{Has, IsPart, RootStands}
 use Rattle.tdb_base.specs.History.{Vector, name_of}
 use Rattle.pair_rule.specs.declared.pass.PassOf.{PassOf}
+use Rattle.pair_rule.specs.declared.sizes.About.{About}
+use Rattle.pair_rule.specs.Laws.{IsAbout}
 use Rattle.pair_rule.specs.Part.{Store, Part, root_pairs}
 use Rattle.pair_rule.specs.Rest.{AtRest, view}
 use Rattle.pair_rule.specs.Plays.{Caught}
@@ -57,9 +59,11 @@ module _ {T : Type 0} (part : Part T) (store : Store) where
     pub no_call : Caught part [] (view old) (view new)
     pub buffers : new ≡ record old { seat = new.seat }
 
--- What a refusal is good for, whoever is refused: there is no place later either, and the root's vector has
--- no name in any history that is seen later.
+-- What a refusal is good for, whoever is refused: among no roots none is, there is no place later either, and
+-- the root's vector has no name in any history that is seen later.
 pub record Refusals {T : Type 0} (part : Part T) : Type 0 where
+  pub none_at_first : (about : About) (pair : ℕ) → IsAbout part.sized part.count about
+      → part.is_full about [] pair → ⊥
   pub stay : (store : Store) (p q : PassOf T) (pair : ℕ) → AtRest part store p → AtRest part store q
       → IsPart (view p).known (view q).known → IsPart (root_pairs part (view p)) (root_pairs part (view q))
       → part.is_full store.about (root_pairs part (view p)) pair

@@ -1,5 +1,5 @@
 -- A root for which there was no place gets no name later.
-use Rattle.std.proofs.Common.{◌≡◌, ℕ, Option, Some, None, refl, sym, ap, ◌∙◌, subst}
+use Rattle.std.proofs.Common.{◌≡◌, ◌<◌, ◌≤◌, ◌-◌, ◌^◌, ℕ, arith, pow_pos, Option, Some, None, refl, sym, ap, ◌∙◌, subst}
 use Rattle.tree_shape.specs.Tree.{Has, IsNaming, IsPart, RootStands}
 use Rattle.tree_shape.proofs.Trees.{one_vector, one_root}
 use Rattle.tdb_base.specs.History.{Vector, name_of}
@@ -7,12 +7,12 @@ use Rattle.tdb_base.proofs.NameLemmas.{names-differ}
 use Rattle.pair_rule.specs.declared.sizes.About.{About}
 use Rattle.pair_rule.specs.declared.pass.PassOf.{PassOf}
 use Rattle.pair_rule.specs.Part.{Store}
-use Rattle.pair_rule.specs.Paths.{root_buckets, bucket, Blocked}
+use Rattle.pair_rule.specs.Paths.{root_buckets, bucket, reach, Blocked}
 use Rattle.pair_rule.specs.Rest.{AtRest, view}
 use Rattle.pair_rule.proofs.Names.{root_more}
 use Rattle.pair_nodes.specs.Roots.{Refusals}
 use Rattle.root_plain.specs.declared.root.Roots.{Roots}
-use Rattle.root_plain.specs.Plain.{Lies, plain}
+use Rattle.root_plain.specs.Plain.{IsPlain, Lies, plain}
 
 -- the root pairs that a pass knows name identifiers: one pair each, and each pair's is one
 pub roots_naming : (store : Store) (p : PassOf Roots) → AtRest plain store p → IsNaming (view p).root.roots
@@ -68,8 +68,16 @@ never_named store p q pair v rp rq known roots stands blocked = by (name_of (vie
         (roots (bucket (root_buckets store.about) pair l.step) other.0 other.1) in
         absurd (other.2 ((roots_naming store q rq).one_pair id other.0 k.0 there k.1 ∙ one))
 
+-- a path has a step
+has_steps : (about : About) → IsPlain about → 0 < reach (root_buckets about)
+unfolding reach
+has_steps about is =
+    let some : 1 ≤ 2 ^ (about.sizes.roots - 3) = pow_pos (about.sizes.roots - 3) in
+    omega (arith, some, is.range.least_probe)
+
 pub plain_refusals : Refusals plain
 plain_refusals = record {
+  none_at_first = λ about pair is blocked. (blocked 0 (has_steps about is)).1;
   stay = λ store p q pair rp rq known roots blocked step lt.
       (let o = blocked step lt in (o.0, roots _ o.0 o.1, o.2));
   for_good = never_named;
