@@ -2,18 +2,18 @@
 use Rattle.std.proofs.Common.{◌≡◌, ◌⊎◌, ℕ, suc, ◌+◌, ◌*◌, ◌/◌, ◌%◌, ◌<◌, ◌≤◌, List, inl, inr, ⊎_elim, arith, sym, subst}
 use Rattle.std.proofs.Math.Nat.{mul-le-mul_right}
 use Rattle.cleary_core.specs.declared.cells.Sizes.{Sizes}
-use Rattle.cleary_core.specs.Access.{Agrees, HasCells, Reaches}
+use Rattle.cleary_core.specs.Access.{HasReached, HasCells, Reaches}
 use Rattle.cleary_core.specs.Cells.{width}
 
-pub earlier : (before after : ℕ → ℕ → Type 0) (words : List ℕ) → ((i m : ℕ) → before i m → after i m) → Agrees after words → Agrees before words
+pub earlier : (before after : ℕ → ℕ → Type 0) (words : List ℕ) → ((i m : ℕ) → before i m → after i m) → HasReached after words → HasReached before words
 earlier before after words more agrees = λ i m h. agrees i m (more i m h)
 
 -- the same along three readings
-pub all_earlier : (first second third last : ℕ → ℕ → Type 0) (words : List ℕ) → ((i m : ℕ) → first i m → second i m) → ((i m : ℕ) → second i m → third i m) → ((i m : ℕ) → third i m → last i m) → Agrees last words
-    → Agrees first words × Agrees second words × Agrees third words
+pub all_earlier : (first second third last : ℕ → ℕ → Type 0) (words : List ℕ) → ((i m : ℕ) → first i m → second i m) → ((i m : ℕ) → second i m → third i m) → ((i m : ℕ) → third i m → last i m) → HasReached last words
+    → HasReached first words × HasReached second words × HasReached third words
 all_earlier first second third last words a b c agrees =
-    let on_third : Agrees third words = earlier third last words c agrees in
-    let on_second : Agrees second words = earlier second third words b on_third in
+    let on_third : HasReached third words = earlier third last words c agrees in
+    let on_second : HasReached second words = earlier second third words b on_third in
     (earlier first second words a on_second, on_second, on_third)
 
 -- more cells have the words of fewer

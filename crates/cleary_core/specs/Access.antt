@@ -4,8 +4,8 @@ use Rattle.cleary_core.specs.declared.cells.Sizes.{Sizes}
 use Rattle.cleary_core.specs.Cells.{width}
 
 -- some words are, at each place, what was found there
-abbrev pub Agrees : (ℕ → ℕ → Type 0) → List ℕ → Type 0
-Agrees reached words = (i m : ℕ) → reached i m → slice_index words i ≡ m
+abbrev pub HasReached : (ℕ → ℕ → Type 0) → List ℕ → Type 0
+HasReached reached words = (i m : ℕ) → reached i m → slice_index words i ≡ m
 
 -- word i has a bit of a cell from `low` up to `high`
 abbrev pub HasCells : Sizes → ℕ → ℕ → ℕ → Type 0

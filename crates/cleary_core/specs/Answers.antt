@@ -3,7 +3,7 @@ use Rattle.std.specs.Prelude.{◌≡◌, ℕ, Bool, List, [], ◌∷◌, length,
 use Rattle.std.specs.Prelude.{if◌then◌else◌}
 use Rattle.cleary_core.specs.declared.cells.Sizes.{Sizes}
 use Rattle.cleary_core.specs.declared.insertion.RegionFull.{RegionFull}
-use Rattle.cleary_core.specs.Access.{Agrees}
+use Rattle.cleary_core.specs.Access.{HasReached}
 use Rattle.cleary_core.specs.Cells.{word_count}
 use Rattle.cleary_core.specs.Map.{Key, Has, KeepsMap}
 
@@ -24,11 +24,11 @@ TellsFlags flags keys home quotient = (k : Key) → Has k keys → k.home ≡ ho
 -- is true of that map
 abbrev pub Decides : Sizes → (ℕ → ℕ → Type 0) → ℕ → ℕ → Bool → Type 0
 Decides z reached home quotient answer = (words : List ℕ) (keys : List Key) → length words ≡ word_count z
-    → Agrees reached words → KeepsMap z words keys → Tells answer keys home quotient
+    → HasReached reached words → KeepsMap z words keys → Tells answer keys home quotient
 
 abbrev pub DecidesFlags : Sizes → (ℕ → ℕ → Type 0) → ℕ → ℕ → ℕ → Type 0
 DecidesFlags z reached home quotient flags = (words : List ℕ) (keys : List Key) → length words ≡ word_count z
-    → Agrees reached words → KeepsMap z words keys → TellsFlags flags keys home quotient
+    → HasReached reached words → KeepsMap z words keys → TellsFlags flags keys home quotient
 
 abbrev pub new_key : ℕ → ℕ → Key
 new_key home quotient = record { home = home; quotient = quotient; flags = 0 }

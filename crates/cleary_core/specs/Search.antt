@@ -3,7 +3,7 @@ use Rattle.std.specs.Prelude.{◌≡◌, ◌≢◌, ℕ, zero, suc, ◌+◌, ◌
 use Rattle.std.specs.Prelude.{MatchOption}
 use Rattle.cleary_core.specs.declared.cells.Cell.{Cell}
 use Rattle.cleary_core.specs.declared.cells.Sizes.{Sizes}
-use Rattle.cleary_core.specs.Access.{Agrees, Reaches}
+use Rattle.cleary_core.specs.Access.{HasReached, Reaches}
 use Rattle.cleary_core.specs.Cells.{mark_of, cell_at}
 use Rattle.cleary_core.specs.Map.{Key, Slots, Taken, Laid, Drawn}
 use Rattle.cleary_core.specs.Answers.{Present}
@@ -85,7 +85,7 @@ pub record ReachesRun (before after : ℕ → ℕ → Type 0) (z : Sizes) (cells
 pub record ReachesGroup (before after : ℕ → ℕ → Type 0) (z : Sizes) (from : ℕ) : Type 0 where
   pub high : ℕ
   pub span : (from ≤ high) × (high ≤ z.cells)
-  pub row : (words : List ℕ) → Agrees after words → Unbroken (cell_at z words) from (high - 1)
+  pub row : (words : List ℕ) → HasReached after words → Unbroken (cell_at z words) from (high - 1)
   pub reach : Reaches before after z from high
 
 -- what was found stands in words of the cells from `from` up to some, which are occupied

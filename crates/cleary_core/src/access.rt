@@ -1,7 +1,7 @@
 //! The words of a region, as they are reached one at a time.
 
 ghost use Rattle.std.specs.Prelude.{◌≡◌, ◌⊎◌, ℕ, ◌<◌, List, length, slice_index, slice_set};
-ghost use Rattle.cleary_core.specs.Access.{Agrees};
+ghost use Rattle.cleary_core.specs.Access.{HasReached};
 
 /// The words of a region as they are reached, one at a time.
 ///
@@ -53,7 +53,7 @@ pub trait WriteWords: ReadWords {
         ensures writes { writes self.old self.new };
 
     // The words are so many, and what was found are they.
-    ghost stands: { (x : Self) (count : ℕ) → Self.spans x count → (length (words x) ≡ count) × Agrees (Self.reached x) (words x) };
+    ghost stands: { (x : Self) (count : ℕ) → Self.spans x count → (length (words x) ≡ count) × HasReached (Self.reached x) (words x) };
 
     // Reading leaves them.
     ghost same: { (x y : Self) → Self.reads x y → (words y ≡ words x) × writes x y };

@@ -1,7 +1,7 @@
 //! A key is inserted: where it goes, and what moves for it.
 
 ghost use Rattle.std.specs.Prelude.{◌≡◌, ℕ, ◌+◌, ◌-◌, ◌^◌, ◌<◌, ◌≤◌, List, length, MatchBool, MatchResult, ⊤};
-ghost use Rattle.cleary_core.specs.Access.{Agrees};
+ghost use Rattle.cleary_core.specs.Access.{HasReached};
 ghost use Rattle.cleary_core.specs.Answers.{Tells, Answered};
 ghost use Rattle.cleary_core.specs.Cells.{IsRegion, cell_at, word_count};
 ghost use Rattle.cleary_core.specs.Change.{Belongs, InOneRun};
@@ -39,10 +39,10 @@ fn group_has<A: ReadWords>(
     requires region { IsRegion sizes.now }
     requires words { A.spans access.old (word_count sizes.now) }
     requires inside { place ≤ sizes.now.cells }
-    ensures tells { (words : List ℕ) (keys : List Key) (start home : ℕ) → Agrees (A.reached access.new) words
+    ensures tells { (words : List ℕ) (keys : List Key) (start home : ℕ) → HasReached (A.reached access.new) words
         → (k : Keeps sizes.now.cells (cell_at sizes.now words) keys)
         → InRun sizes.now.cells (cell_at sizes.now words) k.slots start home → Placed sizes.now.cells k.slots start place home → (cell_at sizes.now words home).virgin ≡ virgin → Tells result keys home quotient }
-    ensures near { (words : List ℕ) (keys : List Key) (start home : ℕ) → Agrees (A.reached access.new) words
+    ensures near { (words : List ℕ) (keys : List Key) (start home : ℕ) → HasReached (A.reached access.new) words
         → (k : Keeps sizes.now.cells (cell_at sizes.now words) keys)
         → InRun sizes.now.cells (cell_at sizes.now words) k.slots start home → Placed sizes.now.cells k.slots start place home → (cell_at sizes.now words home).virgin ≡ virgin
         → ReachesRow (A.reached access.old) (A.reached access.new) sizes.now (cell_at sizes.now words) place }

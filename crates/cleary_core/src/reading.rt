@@ -2,7 +2,7 @@
 
 ghost use Rattle.std.specs.Prelude.{◌≡◌, ℕ, suc, true, false, ◌+◌, ◌-◌, ◌*◌, ◌<◌, ◌≤◌, List, MatchBool};
 ghost use Rattle.std.specs.Prelude.{MatchOption, ⊤};
-ghost use Rattle.cleary_core.specs.Access.{Agrees, Reaches};
+ghost use Rattle.cleary_core.specs.Access.{HasReached, Reaches};
 ghost use Rattle.cleary_core.specs.Cells.{width, IsRegion, Small, cell_at, word_count};
 ghost use Rattle.cleary_core.specs.Map.{Key, Slots, Keeps, KeepsMap};
 ghost use Rattle.cleary_core.specs.Search.{virgins, Front, InRun, Placed, HasChange, EndsGroup, RunEnd};
@@ -18,7 +18,7 @@ pub(crate) fn read_cell<A: ReadWords>(sizes: &Sizes, access: &mut A, i: u64) -> 
     requires region { IsRegion sizes.now }
     requires words { A.spans access.old (word_count sizes.now) }
     requires inside { i < sizes.now.cells }
-    ensures value { (words : List ℕ) → Agrees (A.reached access.new) words
+    ensures value { (words : List ℕ) → HasReached (A.reached access.new) words
         → cell_at sizes.now words i ≡ result }
     ensures small { Small sizes.now result }
     ensures near { Reaches (A.reached access.old) (A.reached access.new) sizes.now i (suc i) }
@@ -52,7 +52,7 @@ pub(crate) fn run_front<A: ReadWords>(sizes: &Sizes, access: &mut A, home: u64) 
     requires words { A.spans access.old (word_count sizes.now) }
     requires inside { home < sizes.now.cells }
     ensures low { result.start ≤ home }
-    ensures front { (words : List ℕ) → Agrees (A.reached access.new) words
+    ensures front { (words : List ℕ) → HasReached (A.reached access.new) words
         → Front (cell_at sizes.now words) result.start result.groups home }
     ensures near { Reaches (A.reached access.old) (A.reached access.new) sizes.now (result.start - 1) home }
     ensures reads { A.reads access.old access.new }
@@ -77,7 +77,7 @@ fn group_end<A: ReadWords>(sizes: &Sizes, access: &mut A, from: u64) -> u64
     requires words { A.spans access.old (word_count sizes.now) }
     requires inside { from ≤ sizes.now.cells }
     ensures bounds { (from ≤ result) × (result ≤ sizes.now.cells) }
-    ensures end { (words : List ℕ) → Agrees (A.reached access.new) words
+    ensures end { (words : List ℕ) → HasReached (A.reached access.new) words
         → HasChange sizes.now.cells (cell_at sizes.now words) from
         → EndsGroup (cell_at sizes.now words) from result }
     ensures near { Reaches (A.reached access.old) (A.reached access.new) sizes.now from result }
@@ -107,7 +107,7 @@ pub(crate) fn group_place<A: ReadWords>(
     requires words { A.spans access.old (word_count sizes.now) }
     requires inside { start ≤ sizes.now.cells }
     ensures bounds { (start ≤ result) × (result ≤ sizes.now.cells) }
-    ensures place { (words : List ℕ) (slots : Slots) (home : ℕ) → Agrees (A.reached access.new) words
+    ensures place { (words : List ℕ) (slots : Slots) (home : ℕ) → HasReached (A.reached access.new) words
         → InRun sizes.now.cells (cell_at sizes.now words) slots start home
         → groups ≡ virgins (cell_at sizes.now words) start (home - start) → Placed sizes.now.cells slots start result home }
     ensures near { Reaches (A.reached access.old) (A.reached access.new) sizes.now start result }
@@ -132,7 +132,7 @@ pub(crate) fn group_seek<A: ReadWords>(
     requires words { A.spans access.old (word_count sizes.now) }
     requires inside { from ≤ sizes.now.cells }
     ensures bounds { MatchOption result ⊤ (λ at. at < sizes.now.cells) }
-    ensures sought { (words : List ℕ) → Agrees (A.reached access.new) words
+    ensures sought { (words : List ℕ) → HasReached (A.reached access.new) words
         → HasChange sizes.now.cells (cell_at sizes.now words) from
         → Searched result sizes.now.cells (cell_at sizes.now words) from quotient }
     ensures near { ReachesGroup (A.reached access.old) (A.reached access.new) sizes.now from }
@@ -159,7 +159,7 @@ pub(crate) fn run_end<A: ReadWords>(sizes: &Sizes, access: &mut A, from: u64) ->
     requires words { A.spans access.old (word_count sizes.now) }
     requires inside { from ≤ sizes.now.cells }
     ensures bounds { (from ≤ result) × (result ≤ sizes.now.cells) }
-    ensures end { (words : List ℕ) → Agrees (A.reached access.new) words
+    ensures end { (words : List ℕ) → HasReached (A.reached access.new) words
         → RunEnd sizes.now.cells (cell_at sizes.now words) from result }
     ensures near { Reaches (A.reached access.old) (A.reached access.new) sizes.now from (suc result) }
     ensures reads { A.reads access.old access.new }
@@ -187,10 +187,10 @@ pub(crate) fn locate<A: ReadWords>(
     requires words { A.spans access.old (word_count sizes.now) }
     requires inside { home < sizes.now.cells }
     ensures bounds { MatchOption result ⊤ (λ at. at < sizes.now.cells) }
-    ensures found { (words : List ℕ) (keys : List Key) → Agrees (A.reached access.new) words
+    ensures found { (words : List ℕ) (keys : List Key) → HasReached (A.reached access.new) words
         → (k : Keeps sizes.now.cells (cell_at sizes.now words) keys)
         → Located result k.slots keys home quotient }
-    ensures near { (words : List ℕ) (keys : List Key) → Agrees (A.reached access.new) words
+    ensures near { (words : List ℕ) (keys : List Key) → HasReached (A.reached access.new) words
         → KeepsMap sizes.now words keys
         → ReachesRun (A.reached access.old) (A.reached access.new) sizes.now (cell_at sizes.now words) home }
     ensures reads { A.reads access.old access.new }

@@ -2,7 +2,7 @@
 
 ghost use Rattle.std.specs.Prelude.{◌≡◌, ℕ, ◌+◌, ◌-◌, ◌*◌, ◌^◌, ◌<◌, ◌≤◌, List, length, MatchBool};
 ghost use Rattle.std.specs.Prelude.{MatchResult, ⊤};
-ghost use Rattle.cleary_core.specs.Access.{Agrees};
+ghost use Rattle.cleary_core.specs.Access.{HasReached};
 ghost use Rattle.cleary_core.specs.Answers.{Tells, TellsFlags, Decides, DecidesFlags, Answered, StayWithout};
 ghost use Rattle.cleary_core.specs.Answers.{flagged};
 ghost use Rattle.cleary_core.specs.Cells.{IsRegion, cell_at, sizes_of, word_count};
@@ -108,7 +108,7 @@ impl<const W: u32, const F: u32> Region<W, F> {
         requires home { home < self.now.cells }
         ensures decided { Decides self.now (A.reached access.new) home quotient result }
         ensures near { (words : List ℕ) (keys : List Key) → length words ≡ word_count self.now
-            → Agrees (A.reached access.new) words → KeepsMap self.now words keys
+            → HasReached (A.reached access.new) words → KeepsMap self.now words keys
             → ReachesRun (A.reached access.old) (A.reached access.new) self.now (cell_at self.now words) home }
         ensures words { A.spans access.new (word_count self.now) }
         ensures reads { A.reads access.old access.new }

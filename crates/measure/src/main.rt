@@ -29,7 +29,7 @@ fn main(rt: HostRuntime) -> io::Result<ExitCode> {
 // Times what the words ask for, the program's name first. None: they ask for nothing.
 fn time<H: Threads + Sync>(
     rt: &HostRuntime,
-    crew: &H,
+    handle: &H,
     words: &[String],
 ) -> io::Result<Option<ExitCode>> {
     let Some(part) = words.get(1) else {
@@ -37,7 +37,7 @@ fn time<H: Threads + Sync>(
     };
     match part.as_str() {
         "read-trace" => time_read_trace(rt, words),
-        "nodes" => time_nodes(rt, crew, words),
+        "nodes" => time_nodes(rt, handle, words),
         "region" => time_region(rt, words),
         _ => Ok(None),
     }
@@ -55,7 +55,7 @@ fn time_read_trace(rt: &HostRuntime, words: &[String]) -> io::Result<Option<Exit
 
 fn time_nodes<H: Threads + Sync>(
     rt: &HostRuntime,
-    crew: &H,
+    handle: &H,
     words: &[String],
 ) -> io::Result<Option<ExitCode>> {
     let Some(exponent) = number(words, 2, 3, 25, 20) else {
@@ -67,7 +67,7 @@ fn time_nodes<H: Threads + Sync>(
     if words.len() > 4 {
         return Ok(None);
     }
-    Ok(Some(nodes::time(rt, crew, exponent as u32, threads)?))
+    Ok(Some(nodes::time(rt, handle, exponent as u32, threads)?))
 }
 
 fn time_region(rt: &HostRuntime, words: &[String]) -> io::Result<Option<ExitCode>> {

@@ -47,7 +47,7 @@ fn put_all(nodes: &Nodes<NoRoot, 28, 7>, pass: &mut Pass<NoRoot, 28, 7>, from: u
 
 // Each caller its share, or all of the pairs, in a thread of its own.
 fn put_shares<H: Threads + Sync>(
-    crew: &H,
+    handle: &H,
     nodes: &Nodes<NoRoot, 28, 7>,
     callers: &mut [Caller],
     all: bool,
@@ -59,7 +59,7 @@ fn put_shares<H: Threads + Sync>(
     let count = callers.len();
     if count > 0 {
         thread::for_each_mut(
-            crew,
+            handle,
             callers,
             count,
             &|_, caller: &mut Caller|
@@ -108,7 +108,7 @@ fn split_callers(
 /// a table, and each looks all of them up.
 pub fn time<H: Threads + Sync>(
     rt: &HostRuntime,
-    crew: &H,
+    handle: &H,
     exponent: u32,
     threads: u64,
 ) -> io::Result<ExitCode>
@@ -116,7 +116,7 @@ pub fn time<H: Threads + Sync>(
     requires threads { (1 ≤ threads) × (threads ≤ 64) }
 {
     time_create(rt, exponent)?;
-    match time_pairs(rt, crew, threads) {
+    match time_pairs(rt, handle, threads) {
         Ok((put, found, 0)) => eprintln!(rt;
             "{} pairs by {} threads: put {} us, found by each {} us",
             PAIRS, threads, put, found
@@ -156,7 +156,7 @@ fn sizes_of(nodes: u32) -> Sizes
 // many of these the table was full.
 fn time_pairs<H: Threads + Sync>(
     rt: &HostRuntime,
-    crew: &H,
+    handle: &H,
     threads: u64,
 ) -> Result<(u64, u64, u64), NoMemory>
     requires { (1 ≤ threads) × (threads ≤ 64) }
@@ -164,8 +164,8 @@ fn time_pairs<H: Threads + Sync>(
     let (table, mut pass) = Table::create(rt.alloc(), &sizes_of(20), 16)?;
     let nodes = Nodes::over(table);
     let mut callers = split_callers(rt.alloc(), &nodes, &mut pass, threads)?;
-    let put = timed(rt, crew, &nodes, callers.as_mut_slice(), false);
-    let found = timed(rt, crew, &nodes, callers.as_mut_slice(), true);
+    let put = timed(rt, handle, &nodes, callers.as_mut_slice(), false);
+    let found = timed(rt, handle, &nodes, callers.as_mut_slice(), true);
     let mut full = 0u64;
     for caller in &callers {
         full = full.saturating_add(caller.full);
@@ -176,7 +176,7 @@ fn time_pairs<H: Threads + Sync>(
 // Microseconds for one round of all callers.
 fn timed<H: Threads + Sync>(
     rt: &HostRuntime,
-    crew: &H,
+    handle: &H,
     nodes: &Nodes<NoRoot, 28, 7>,
     callers: &mut [Caller],
     all: bool,
@@ -186,7 +186,7 @@ fn timed<H: Threads + Sync>(
     ensures { All (λ c. AtRest no_roots nodes.now c.pass) callers.new }
 {
     let start = Instant::now(rt);
-    put_shares(crew, nodes, callers, all);
+    put_shares(handle, nodes, callers, all);
     match start {
         Ok(start) => nanoseconds_since(rt, &start).unwrap_or(0) / 1000,
         Err(_) => 0,

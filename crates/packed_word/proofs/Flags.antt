@@ -6,7 +6,7 @@ use lib.Bits.{bit_and}
 use Rattle.std.proofs.lemmas.Nat.{pow_pos, mod_below, pow_below, or_lt, shr-shr, shr_split, shr_below, and_le_l}
 use Rattle.std.proofs.lemmas.Nat.Bits.{bit_at-suc, bit_at_and, bit_at_or, bit_at_not, bit_at-lt, bit_at-pow_same, bit_at-pow_other, same_from_bits_below, bit_at_cat_low, bit_at_cat_high}
 use Rattle.std.proofs.lemmas.Bool.{cases_lt, cases_eq}
-use Rattle.packed_word.specs.Word.{IsLayout, right_of, left_of, flags_of, rest_of, with_bit, without_bit, ChangesFlags}
+use Rattle.packed_word.specs.Word.{IsLayout, right_of, left_of, flags_of, above_flags, with_bit, without_bit, ChangesFlags}
 use Rattle.packed_word.proofs.FieldBits.{bit_at_mod, bit_at_shr}
 
 top : (x y : ℕ) → x < 2 → y ≡ 1 → max x y ≡ 1
@@ -91,13 +91,13 @@ module _ (width flags b old new after : ℕ) (layout : IsLayout width flags) (h 
   same_left = same_from_bits_below width (left_of width new) (left_of width old) (mod_below (new / 2 ^ width) (2 ^ width) (pow_pos width)) (mod_below (old / 2 ^ width) (2 ^ width) (pow_pos width))
       (λ i lt. bit_at_mod (new / 2 ^ width) width i lt ∙ bit_at_shr new width i ∙ elsewhere (width + i) (omega arith) (omega arith) ∙ sym (bit_at_shr old width i) ∙ sym (bit_at_mod (old / 2 ^ width) width i lt))
 
-  rest_below : (word : ℕ) → word < 2 ^ 64 → rest_of width flags word < 2 ^ (64 - (2 * width + flags))
+  rest_below : (word : ℕ) → word < 2 ^ 64 → above_flags width flags word < 2 ^ (64 - (2 * width + flags))
   rest_below word lt =
       let e : 64 ≡ 64 - (2 * width + flags) + (2 * width + flags) = omega arith in
       shr_below word (64 - (2 * width + flags)) (2 * width + flags) (subst (λ (n : ℕ). word < 2 ^ n) e lt)
 
-  same_rest : rest_of width flags new ≡ rest_of width flags old
-  same_rest = same_from_bits_below (64 - (2 * width + flags)) (rest_of width flags new) (rest_of width flags old) (rest_below new small) (rest_below old small_old)
+  same_rest : above_flags width flags new ≡ above_flags width flags old
+  same_rest = same_from_bits_below (64 - (2 * width + flags)) (above_flags width flags new) (above_flags width flags old) (rest_below new small) (rest_below old small_old)
       (λ i lt. bit_at_shr new (2 * width + flags) i ∙ elsewhere (2 * width + flags + i) (omega arith) (omega arith) ∙ sym (bit_at_shr old (2 * width + flags) i))
 
   same_flag : (i : ℕ) → i < flags → bit_at (flags_of width flags new) i ≡ bit_at after i
@@ -111,7 +111,7 @@ module _ (width flags b old new after : ℕ) (layout : IsLayout width flags) (h 
     right = same_right;
     left = same_left;
     present = elsewhere 63 (omega arith) (omega arith);
-    rest = same_rest;
+    above = same_rest;
     small = small;
     flags_after = same_from_bits_below flags (flags_of width flags new) after (mod_below (new / 2 ^ (2 * width)) (2 ^ flags) (pow_pos flags)) fits same_flag;
   }

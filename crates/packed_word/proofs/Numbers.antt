@@ -5,7 +5,7 @@ use Rattle.std.specs.Int.RustNames.{bit_or}
 use lib.Bits.{bit_and}
 use Rattle.std.proofs.lemmas.Nat.{pow_pos, pow-add, mod-pow-add, mod_below, mul-add-lt, shr-shr, shr_split, shr_high, mod_low, field_of, or_lt, pow_below}
 use Rattle.std.proofs.Math.Pow.{pow_mono}
-use Rattle.packed_word.specs.Word.{IsLayout, right_of, left_of, flags_of, rest_of, with_bit, without_bit, word_of, IsWordOf, ChangesFlags}
+use Rattle.packed_word.specs.Word.{IsLayout, right_of, left_of, flags_of, above_flags, with_bit, without_bit, word_of, IsWordOf, ChangesFlags}
 use Rattle.packed_word.proofs.Parts.{split_power, kept_pair}
 use Rattle.packed_word.proofs.Flags.{sets_flag, clears_flag}
 
@@ -40,7 +40,7 @@ module _ (width flags value pair : ℕ) (layout : IsLayout width flags) (h : val
   the_flags : flags_of width flags word ≡ value
   the_flags = ap (λ n. n % 2 ^ flags) (the_high ∙ by_flags) ∙ mod_low (2 ^ (63 - (2 * width + flags))) flags value h
 
-  the_rest : rest_of width flags word ≡ 2 ^ (63 - (2 * width + flags))
+  the_rest : above_flags width flags word ≡ 2 ^ (63 - (2 * width + flags))
   the_rest = sym (shr-shr word (2 * width) flags) ∙ ap (λ n. n / 2 ^ flags) (the_high ∙ by_flags) ∙ shr_high (2 ^ (63 - (2 * width + flags))) flags value h
 
   below_top : value * 2 ^ (2 * width) + pair < 2 ^ 63
@@ -52,16 +52,16 @@ module _ (width flags value pair : ℕ) (layout : IsLayout width flags) (h : val
       omega (arith, below, e, most)
 
   pub has_parts : IsWordOf width flags value pair (word_of width value pair)
-  has_parts = let top = below_top in record { right = the_right; left = the_left; flags_are = the_flags; present = omega arith; rest = the_rest; small = omega arith }
+  has_parts = let top = below_top in record { right = the_right; left = the_left; flags_are = the_flags; present = omega arith; above = the_rest; small = omega arith }
 
 -- a word is its parts
-whole_of : (width flags n : ℕ) → n ≡ (rest_of width flags n * 2 ^ flags + flags_of width flags n) * 2 ^ (2 * width) + (left_of width n * 2 ^ width + right_of width n)
+whole_of : (width flags n : ℕ) → n ≡ (above_flags width flags n * 2 ^ flags + flags_of width flags n) * 2 ^ (2 * width) + (left_of width n * 2 ^ width + right_of width n)
 whole_of width flags n =
-    let highs : n / 2 ^ (2 * width) ≡ rest_of width flags n * 2 ^ flags + flags_of width flags n = sym (shr_split (n / 2 ^ (2 * width)) flags) ∙ ap (λ m. m * 2 ^ flags + flags_of width flags n) (shr-shr n (2 * width) flags) in
+    let highs : n / 2 ^ (2 * width) ≡ above_flags width flags n * 2 ^ flags + flags_of width flags n = sym (shr_split (n / 2 ^ (2 * width)) flags) ∙ ap (λ m. m * 2 ^ flags + flags_of width flags n) (shr-shr n (2 * width) flags) in
     let lows = kept_pair width n in
     sym (shr_split n (2 * width)) ∙ (λ i. highs i * 2 ^ (2 * width) + lows i)
 
-same_word : (width flags a b : ℕ) → right_of width a ≡ right_of width b → left_of width a ≡ left_of width b → flags_of width flags a ≡ flags_of width flags b → rest_of width flags a ≡ rest_of width flags b → a ≡ b
+same_word : (width flags a b : ℕ) → right_of width a ≡ right_of width b → left_of width a ≡ left_of width b → flags_of width flags a ≡ flags_of width flags b → above_flags width flags a ≡ above_flags width flags b → a ≡ b
 same_word width flags a b right left flag rest =
     whole_of width flags a ∙ (λ i. (rest i * 2 ^ flags + flag i) * 2 ^ (2 * width) + (left i * 2 ^ width + right i)) ∙ sym (whole_of width flags b)
 
@@ -70,7 +70,7 @@ changed_word : (width flags value after pair new : ℕ) → IsLayout width flags
 changed_word width flags value after pair new layout h k small c =
     let old = has_parts width flags value pair layout h small in
     let is = has_parts width flags after pair layout k small in
-    same_word width flags new (word_of width after pair) (c.right ∙ old.right ∙ sym is.right) (c.left ∙ old.left ∙ sym is.left) (c.flags_after ∙ sym is.flags_are) (c.rest ∙ old.rest ∙ sym is.rest)
+    same_word width flags new (word_of width after pair) (c.right ∙ old.right ∙ sym is.right) (c.left ∙ old.left ∙ sym is.left) (c.flags_after ∙ sym is.flags_are) (c.above ∙ old.above ∙ sym is.above)
 
 pub sets_flag_of : (width flags b value pair : ℕ) → IsLayout width flags → b < flags → value < 2 ^ flags → pair < 2 ^ (2 * width) → bit_or (word_of width value pair) (2 ^ (2 * width + b)) ≡ word_of width (with_bit value b) pair
 sets_flag_of width flags b value pair layout lt h k =
@@ -91,4 +91,4 @@ pub parts_make : (width flags value pair word : ℕ) → IsLayout width flags �
     → word ≡ word_of width value pair
 parts_make width flags value pair word layout small fits is =
     let made = has_parts width flags value pair layout small fits in
-    same_word width flags word (word_of width value pair) (is.right ∙ sym made.right) (is.left ∙ sym made.left) (is.flags_are ∙ sym made.flags_are) (is.rest ∙ sym made.rest)
+    same_word width flags word (word_of width value pair) (is.right ∙ sym made.right) (is.left ∙ sym made.left) (is.flags_are ∙ sym made.flags_are) (is.above ∙ sym made.above)

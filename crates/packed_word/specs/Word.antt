@@ -17,8 +17,8 @@ abbrev pub flags_of : ℕ → ℕ → ℕ → ℕ
 flags_of width flags word = word / 2 ^ (2 * width) % 2 ^ flags
 
 -- what is above the flags: the present bit, and bits that are 0
-abbrev pub rest_of : ℕ → ℕ → ℕ → ℕ
-rest_of width flags word = word / 2 ^ (2 * width + flags)
+abbrev pub above_flags : ℕ → ℕ → ℕ → ℕ
+above_flags width flags word = word / 2 ^ (2 * width + flags)
 
 -- bit 63 is set
 abbrev pub IsPresent : ℕ → Type 0
@@ -45,7 +45,7 @@ pub record ChangesFlags (width flags old new after : ℕ) : Type 0 where
   pub left : left_of width new ≡ left_of width old
   pub flags_after : flags_of width flags new ≡ after
   pub present : bit_at new 63 ≡ bit_at old 63
-  pub rest : rest_of width flags new ≡ rest_of width flags old
+  pub above : above_flags width flags new ≡ above_flags width flags old
   pub small : new < 2 ^ 64
 
 -- the parts of a present word below 2 ^ 64: the pair's, these flags, and 0 between them and the present bit
@@ -54,5 +54,5 @@ pub record IsWordOf (width flags value pair word : ℕ) : Type 0 where
   pub left : left_of width word ≡ pair / 2 ^ width
   pub flags_are : flags_of width flags word ≡ value
   pub present : IsPresent word
-  pub rest : rest_of width flags word ≡ 2 ^ (63 - (2 * width + flags))
+  pub above : above_flags width flags word ≡ 2 ^ (63 - (2 * width + flags))
   pub small : word < 2 ^ 64

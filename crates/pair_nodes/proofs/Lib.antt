@@ -1,2 +1,3 @@
 pub mod Views
 pub mod Lines
+pub mod Looks

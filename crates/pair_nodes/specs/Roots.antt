@@ -1,5 +1,7 @@
 -- What the calls on a store's roots leave of a pass, whatever its root table is.
-use Rattle.std.specs.Prelude.{◌≡◌, ℕ, ◌^◌, ◌<◌, [], ◌∷◌, Bool, false, None, length}
+use Rattle.std.specs.Prelude.{◌≡◌, ℕ, ◌^◌, ◌<◌, [], ◌∷◌, Bool, true, false, Option, None, length}
+use Rattle.std.specs.Prelude.{option_map, ◌≤◌}
+use Rattle.tdb_base.specs.Fakes.{counted}
 use Rattle.packed_word.specs.Word.{pair_of}
 use Rattle.tree_shape.specs.Tree.{Has, IsPart, RootStands}
 use Rattle.tdb_base.specs.History.{Vector, name_of}
@@ -30,6 +32,12 @@ module _ {T : Type 0} (part : Part T) (store : Store) where
     pub root : Has (id, pair) (root_pairs part (view new))
     pub buffers : KeepsBuffers old new
 
+  -- a look found no name for the pair, and no call was made
+  pub record RootUnseen (old new : PassOf T) : Type 0 where
+    pub rest : AtRest part store new
+    pub no_call : Caught part [] (view old) (view new)
+    pub buffers : KeepsBuffers old new
+
   -- there is no place for the pair, and no call was made
   pub record RootRefused (pair : ℕ) (old new : PassOf T) : Type 0 where
     pub rest : AtRest part store new
@@ -58,6 +66,15 @@ module _ {T : Type 0} (part : Part T) (store : Store) where
     pub root : Has (id, pair_in store parts) (root_pairs part (view old))
     pub no_call : Caught part [] (view old) (view new)
     pub buffers : new ≡ record old { seat = new.seat }
+
+-- a step was counted, or none
+abbrev pub ticked_if : Bool → Option ℕ → Option ℕ
+ticked_if true count = option_map counted count
+ticked_if false count = count
+
+-- no pass counts more than 2 ^ 24 names
+abbrev pub HasFewNames : {T : Type 0} → Part T → Type 0
+HasFewNames {T} part = (store : Store) (p : PassOf T) → AtRest part store p → p.names_count ≤ 16777216
 
 -- What a refusal is good for, whoever is refused: among no roots none is, there is no place later either, and
 -- the root's vector has no name in any history that is seen later.

@@ -33,7 +33,7 @@ fn settle<R: RootPart<W, F>, const W: u32, const F: u32>(
     requires probing { (view pass.old).probing ≡ true }
     ensures rest { AtRest R.part table.now pass.new }
     ensures tree { KeepsTree pass.old pass.new }
-    ensures told { MatchOption result
+    ensures ends { MatchOption result
         ((step : ℕ) → bucket (node_buckets table.now.about) (pair_of_word word) step ≡ at
         → HasPassed (view pass.old) (pair_of_word word) step
         → Underway (pair_of_word word) (step + 1) 0 (view pass.old) (view pass.new))
@@ -72,7 +72,7 @@ fn look_along<R: RootPart<W, F>, const W: u32, const F: u32>(
     requires probing { (view pass.old).probing ≡ true }
     ensures rest { AtRest R.part table.now pass.new }
     ensures tree { KeepsTree pass.old pass.new }
-    ensures told { MatchOption result
+    ensures ends { MatchOption result
         (Underway (pair_of_word word) (8 * walk.now.passed + 8) 0 (view pass.old) (view pass.new))
         (λ index. Ended (pair_of_word word) index 0 (view pass.old) (view pass.new)) }
 {
@@ -101,7 +101,7 @@ fn look_first<R: RootPart<W, F>, const W: u32, const F: u32>(
         × (0 < walk.now.course.lines) }
     ensures rest { AtRest R.part table.now pass.new }
     ensures tree { KeepsTree pass.old pass.new }
-    ensures told { MatchOption result (Underway (pair_of_word word) 1 1 (view pass.old) (view pass.new))
+    ensures ends { MatchOption result (Underway (pair_of_word word) 1 1 (view pass.old) (view pass.new))
         (λ index. Ended (pair_of_word word) index 1 (view pass.old) (view pass.new)) }
 {
     let at = walk.bucket(0);
@@ -124,7 +124,7 @@ fn look_along_first<R: RootPart<W, F>, const W: u32, const F: u32>(
         × (0 < walk.now.course.lines) }
     ensures rest { AtRest R.part table.now pass.new }
     ensures tree { KeepsTree pass.old pass.new }
-    ensures told { MatchOption result (Underway (pair_of_word word) 8 1 (view pass.old) (view pass.new))
+    ensures ends { MatchOption result (Underway (pair_of_word word) 8 1 (view pass.old) (view pass.new))
         (λ index. Ended (pair_of_word word) index 1 (view pass.old) (view pass.new)) }
 {
     if let Some(index) = look_first(table, pass, walk, word) {
@@ -147,7 +147,7 @@ pub(crate) fn probe<R: RootPart<W, F>, const W: u32, const F: u32>(
     requires path { path.now ≡ course_of table.now.about word }
     ensures rest { AtRest R.part table.now pass.new }
     ensures tree { KeepsTree pass.old pass.new }
-    ensures told { MatchOption result
+    ensures ends { MatchOption result
         (Underway (pair_of_word word) (reach (node_buckets table.now.about)) 1 (view pass.old)
         (view pass.new))
         (λ index. Ended (pair_of_word word) index 1 (view pass.old) (view pass.new)) }

@@ -12,7 +12,7 @@ use Rattle.pair_rule.specs.declared.sizes.About.{About}
 use Rattle.pair_rule.specs.Part.{Part}
 use Rattle.pair_rule.specs.View.{face, made_of}
 use Rattle.pair_rule.specs.Paths.{node_buckets, size}
-use Rattle.pair_rule.specs.Rule.{IsNode, at, Filled, Made, Named, Fits, Numbers, Callers, Kept}
+use Rattle.pair_rule.specs.Rule.{IsNode, at, Filled, Made, Named, Fits, Numbers, Callers, StoreRule}
 use Rattle.pair_rule.specs.Rest.{AreNodes}
 use Rattle.pair_rule.specs.Plays.{Caught}
 use Rattle.pair_rule.proofs.Lists.{has_back, has_either, set_got, each_set, map_same}
@@ -29,7 +29,7 @@ catch v h seen busy t = record v { busy = busy; seen = seen; known = h.known ++ 
 module _ {T : Type 0} (S : Type 0) (about : About) (part : Part T)
     (root : History → List ℕ → List (View T) → Type 0) where
   abbrev Rule : State S (View T) → Type 0
-  Rule = Kept about (part.roots about) root
+  Rule = StoreRule about (part.roots about) root
 
   -- the nodes' words are as they were
   abbrev pub SameNodes : List ℕ → List ℕ → Type 0

@@ -4,7 +4,7 @@ use mathlib.Core.Logic.{dite}
 use native.Mathlib.Decide.{ℕ_discrete, dec_lt}
 use Rattle.probe_path.proofs.Buckets.{bucket_at-below}
 use Rattle.pair_rule.specs.Paths.{Buckets, size, bucket, reach, IsPair, Passed}
-use Rattle.pair_rule.specs.Rule.{InWords, Stands, Filled}
+use Rattle.pair_rule.specs.Rule.{InWords, HasPair, Filled}
 
 pub bucket_below : (b : Buckets) (pair step : ℕ) → 3 ≤ b.d → bucket b pair step < size b
 unfolding bucket size
@@ -18,7 +18,7 @@ module _ (b : Buckets) (Reads : ℕ → ℕ → Type 0) (one : (n x y : ℕ) →
   pub filled_same : (w w' : ℕ → ℕ) → 3 ≤ b.d → SamePairs w w' → Filled b Reads w → Filled b Reads w'
   filled_same w w' least same filled i inside = ⊎_elim
       (λ (z : w i ≡ 0). inl ((same i inside).0 z))
-      (λ (t : (x : ℕ) × Stands b Reads w i x). let o = t.1.on_path in inr (
+      (λ (t : (x : ℕ) × HasPair b Reads w i x). let o = t.1.on_path in inr (
         t.0,
         record {
           there = (same i inside).1 t.0 t.1.there;
@@ -40,11 +40,11 @@ module _ (b : Buckets) (Reads : ℕ → ℕ → Type 0) (one : (n x y : ℕ) →
       let stay : (k y : ℕ) → Reads (w k) y → Reads (w' k) y = λ k y h. subst (λ (n : ℕ). Reads n y) (sym (others k (λ z. used y (subst (λ (n : ℕ). Reads n y) (ap w z ∙ free) h)))) h in
       let path : (y m k : ℕ) → Passed b (InWords Reads w) y m → Passed b (InWords Reads w') y m = λ y m k p l lt. let q = p l lt in (q.0, stay _ q.0 q.1, q.2) in
       dite (ℕ_discrete k i)
-      (λ ki. subst (λ (m : ℕ). (w' m ≡ 0) ⊎ ((y : ℕ) × Stands b Reads w' m y)) (sym ki)
+      (λ ki. subst (λ (m : ℕ). (w' m ≡ 0) ⊎ ((y : ℕ) × HasPair b Reads w' m y)) (sym ki)
       (inr (x, record { there = here; is_pair = small; on_path = record { step = j; within = near; here = lies; passed = path x j 0 passed } })))
       (λ kn. ⊎_elim
       (λ (z : w k ≡ 0). inl (others k kn ∙ z))
-      (λ (t : (y : ℕ) × Stands b Reads w k y). let o = t.1.on_path in inr (
+      (λ (t : (y : ℕ) × HasPair b Reads w k y). let o = t.1.on_path in inr (
         t.0,
         record {
           there = stay k t.0 t.1.there;
@@ -54,10 +54,10 @@ module _ (b : Buckets) (Reads : ℕ → ℕ → Type 0) (one : (n x y : ℕ) →
       ))
       (filled k inside))
 
-  pub stands : (w : ℕ → ℕ) (i x : ℕ) → Filled b Reads w → i < size b → Reads (w i) x → Stands b Reads w i x
+  pub stands : (w : ℕ → ℕ) (i x : ℕ) → Filled b Reads w → i < size b → Reads (w i) x → HasPair b Reads w i x
   stands w i x filled inside h = ⊎_elim
       (λ (z : w i ≡ 0). absurd (used x (subst (λ (n : ℕ). Reads n x) z h)))
-      (λ (t : (y : ℕ) × Stands b Reads w i y). subst (Stands b Reads w i) (one (w i) t.0 x t.1.there h) t.1)
+      (λ (t : (y : ℕ) × HasPair b Reads w i y). subst (HasPair b Reads w i) (one (w i) t.0 x t.1.there h) t.1)
       (filled i inside)
 
   -- a pair whose path has an empty bucket after others stands nowhere
@@ -71,7 +71,7 @@ module _ (b : Buckets) (Reads : ℕ → ℕ → Type 0) (one : (n x y : ℕ) →
       (λ more. let p = o.passed j (omega arith) in used p.0 (subst (λ (n : ℕ). Reads n p.0) (ap w lies ∙ free) p.1)))
 
   -- a pair stands in one bucket
-  pub one_bucket : (w : ℕ → ℕ) (i k x : ℕ) → Stands b Reads w i x → Stands b Reads w k x → i ≡ k
+  pub one_bucket : (w : ℕ → ℕ) (i k x : ℕ) → HasPair b Reads w i x → HasPair b Reads w k x → i ≡ k
   one_bucket w i k x p q =
       let a = p.on_path in let c = q.on_path in
       dite (dec_lt a.step c.step)

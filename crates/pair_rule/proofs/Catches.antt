@@ -10,9 +10,9 @@ use Rattle.tdb_base.specs.Legal.{Extends}
 use Rattle.pair_rule.specs.declared.view.View.{View}
 use Rattle.pair_rule.specs.declared.pass.PassOf.{PassOf}
 use Rattle.pair_rule.specs.Part.{Part, Store}
-use Rattle.pair_rule.specs.Rest.{SeatRests, AtRest, names_of_callers, view}
+use Rattle.pair_rule.specs.Rest.{Sound, SeatRests, AtRest, names_of_callers, view}
 use Rattle.pair_rule.specs.Plays.{Caught}
-use Rattle.pair_rule.proofs.Histories.{extends_trans}
+use Rattle.pair_rule.proofs.Histories.{extends_refl, extends_trans}
 use Rattle.pair_rule.proofs.Counts.{names_same}
 
 -- how many names these callers gave: by one entry after another
@@ -37,6 +37,23 @@ pub names_by_fresh : (ns : List ℕ) (e : Entry) → e.act ≡ Put true → Has 
 names_by_fresh ns e fresh has = rw (fresh, any_of e.caller ns has) refl
 
 module _ {T : Type 0} (part : Part T) where
+  -- a view that nothing happened to
+  pub caught_none : (v : View T) → Sound part v → Caught part [] v v
+  caught_none v sound = record {
+    log = v.seen;
+    seen = sym (append-nil v.seen);
+    begins = extends_refl v.seen;
+    own = λ c has. refl;
+    about = refl;
+    face_is = refl;
+    made = refl;
+    probing = refl;
+    probes = refl;
+    known = λ i x has. has;
+    roots_stay = λ i x has. has;
+    sound = sound;
+  }
+
   -- a view that caught up, and then again
   pub caught_then : (more : History) (v u w : View T) → Caught part [] v u → Caught part more u w → Caught part more v w
   caught_then more v u w a b =

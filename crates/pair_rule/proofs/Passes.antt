@@ -20,7 +20,7 @@ use Rattle.pair_rule.specs.declared.sizes.About.{About}
 use Rattle.pair_rule.specs.Numbers.{child, Face, parent_face, child_face, joint_face, no_face}
 use Rattle.pair_rule.specs.View.{longer, face, made_of, newcomer, parent_view, child_view, joining_view, nobody, old_of}
 use Rattle.pair_rule.specs.Paths.{node_buckets, size}
-use Rattle.pair_rule.specs.Rule.{at, Made, Named, Fits, Numbers, Callers, Holder, Kept}
+use Rattle.pair_rule.specs.Rule.{at, Made, Named, Fits, Numbers, Callers, Holder, StoreRule}
 use Rattle.pair_rule.proofs.Lists.{has_front, has_back, has_either, set_got, get_one, each_set, each_snoc, map_same, no_repeats_both, not_there}
 use Rattle.pair_rule.proofs.Histories.{Longer, longer_is, longer_of, extends_refl, no_longer, legal_front, calls_between, calls_none}
 use Rattle.pair_rule.proofs.Census.{child_above, numbers_split, callers_split, numbers_join, callers_join}
@@ -74,7 +74,7 @@ holder_both log views id other v w u n h e f apart seen long =
 
 module _ {T : Type 0} (S : Type 0) (about : About) (roots : About → History → T → List (ℕ × ℕ)) (root : History → List ℕ → List (View T) → Type 0) where
   abbrev Rule : State S (View T) → Type 0
-  Rule = Kept about (roots about) root
+  Rule = StoreRule about (roots about) root
 
   pub splits : (split : T → T) → ((h : History) (t : T) → roots about h (split t) ≡ roots about h t)
       → ((log : History) (ws : List ℕ) (views : List (View T)) (id : ℕ) (v : View T) → root log ws views → get_elem? views id ≡ some v → root log ws (set views id (parent_view v) ++ child_view split v ∷ []))
@@ -207,7 +207,7 @@ module _ {T : Type 0} (S : Type 0) (about : About) (roots : About → History �
   -- the table at the start
   pub opens : (t : T) (n : ℕ) (xs : List S) → n ≡ suc (size (node_buckets about)) + about.root_words → 3 ≤ about.sizes.nodes → roots about [] t ≡ []
       → ((ws : List ℕ) → length ws ≡ about.root_words → ((i : ℕ) → ◌≡◌ {A = ℕ} (get_or ws i 0) 0) → root [] ws (newcomer t about ∷ []))
-      → Kept about (roots about) root (opening (replicate n 0) xs (newcomer t about))
+      → StoreRule about (roots about) root (opening (replicate n 0) xs (newcomer t about))
   opens t n xs count least none starts = record {
     log = [];
     legal = legal-nil about.flags;
@@ -262,5 +262,5 @@ module _ {T : Type 0} (S : Type 0) (about : About) (roots : About → History �
   -- the same of words that are so many zeros
   pub opens_words : (words : List ℕ) (t : T) (n : ℕ) (xs : List S) → words ≡ replicate n 0 → n ≡ suc (size (node_buckets about)) + about.root_words → 3 ≤ about.sizes.nodes → roots about [] t ≡ []
       → ((ws : List ℕ) → length ws ≡ about.root_words → ((i : ℕ) → ◌≡◌ {A = ℕ} (get_or ws i 0) 0) → root [] ws (newcomer t about ∷ []))
-      → Kept about (roots about) root (opening words xs (newcomer t about))
-  opens_words words t n xs are count least none starts = subst (λ (ws : List ℕ). Kept about (roots about) root (opening ws xs (newcomer t about))) (sym are) (opens t n xs count least none starts)
+      → StoreRule about (roots about) root (opening words xs (newcomer t about))
+  opens_words words t n xs are count least none starts = subst (λ (ws : List ℕ). StoreRule about (roots about) root (opening ws xs (newcomer t about))) (sym are) (opens t n xs count least none starts)

@@ -15,7 +15,7 @@ use Rattle.pair_rule.specs.Laws.{IsAbout}
 use Rattle.pair_rule.specs.Part.{Store, Part}
 use Rattle.pair_rule.specs.View.{longer, parent_view, child_view, joining_view, joined_view, old_of}
 use Rattle.pair_rule.specs.Paths.{node_buckets, size}
-use Rattle.pair_rule.specs.Rule.{Named, Kept}
+use Rattle.pair_rule.specs.Rule.{Named, StoreRule}
 use Rattle.pair_rule.specs.Rest.{Sound, SeatRests, AtRest, names_of_callers}
 use Rattle.pair_rule.specs.Splits.{HasTaken}
 use Rattle.pair_rule.specs.Plays.{JoinTold}
@@ -172,7 +172,7 @@ module _ {T : Type 0} (part : Part T) where
 -- the first pass of a table, whatever it knows
 pub rests_first : {S T : Type 0} (part : Part T) (store : Store) (root : History → List ℕ → List (View T) → Type 0)
     → SoundOf S store.about part root → Houses S store.about part root → IsAbout part.sized part.count store.about
-    → (v : View T) (words : List ℕ) (seat : Seat S (View T)) → Kept store.about (part.roots store.about) root {S = S} (opening words [] v)
+    → (v : View T) (words : List ℕ) (seat : Seat S (View T)) → StoreRule store.about (part.roots store.about) root {S = S} (opening words [] v)
     → v.live ≡ true → v.busy ≡ false → v.olds ≡ [] → v.about ≡ store.about
     → seat.table_id ≡ store.table → seat.me ≡ (v, []) → SeatRests part store seat
 rests_first {S} {T} part store root sounds_of houses is_about v words seat kept live idle no_olds about same is =

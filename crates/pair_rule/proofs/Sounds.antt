@@ -10,7 +10,7 @@ use Rattle.pair_rule.specs.declared.view.View.{View}
 use Rattle.pair_rule.specs.declared.sizes.About.{About}
 use Rattle.pair_rule.specs.Part.{Part}
 use Rattle.pair_rule.specs.View.{face}
-use Rattle.pair_rule.specs.Rule.{at, Fits, Kept}
+use Rattle.pair_rule.specs.Rule.{at, Fits, StoreRule}
 use Rattle.pair_rule.specs.Rest.{Whole, HasAll, Sound}
 use Rattle.pair_rule.proofs.Histories.{legal_front, extends_shorter, calls_between, calls_none}
 use Rattle.pair_rule.proofs.Census.{no_descendants}
@@ -29,7 +29,7 @@ module _ {T : Type 0} (S : Type 0) (about : About) (part : Part T)
   Houses = (log : History) (ws : List ℕ) (nodes : ℕ → ℕ) (views : List (View T)) (id : ℕ) (v : View T)
       → root log ws views → IsLegal about.flags log → get_elem? views id ≡ some v → Fits about (part.roots about) log nodes v → v.live ≡ true → v.seen ≡ log → part.house about (part.roots about v.seen v.root)
 
-  module _ (sounds : SoundOf) (houses : Houses) (s : State S (View T)) (r : Kept about (part.roots about) root s) (id : ℕ) (v : View T) (e : get_elem? s.views id ≡ some v) (live : v.live ≡ true) where
+  module _ (sounds : SoundOf) (houses : Houses) (s : State S (View T)) (r : StoreRule about (part.roots about) root s) (id : ℕ) (v : View T) (e : get_elem? s.views id ≡ some v) (live : v.live ≡ true) where
     has_all : Whole v → HasAll part about v
     has_all whole =
         let f = r.each id v e in

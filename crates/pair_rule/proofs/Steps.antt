@@ -14,7 +14,7 @@ use Rattle.pair_rule.specs.declared.sizes.About.{About}
 use Rattle.pair_rule.specs.Part.{Part}
 use Rattle.pair_rule.specs.View.{face, made_of, Grown, node_word, gained, learned, published}
 use Rattle.pair_rule.specs.Paths.{node_buckets, size, bucket, reach, IsPair, Passed, Listed}
-use Rattle.pair_rule.specs.Rule.{IsNode, at, Stands, Made, Named, open_probes, Fits, Numbers, Callers, Holder, Kept}
+use Rattle.pair_rule.specs.Rule.{IsNode, at, HasPair, Made, Named, open_probes, Fits, Numbers, Callers, Holder, StoreRule}
 use Rattle.pair_rule.specs.Rest.{Sound}
 use Rattle.pair_rule.specs.Plays.{IsWord, Found, look_tells, begin_tells, put_tells, after_join_tells}
 use Rattle.pair_rule.proofs.Lists.{set_got, get_one, each_set, map_same, at_unmap}
@@ -46,7 +46,7 @@ holder_same {T} log views id v w h e same = mathlib.Core.Logic.dite (native.Math
 module _ {T : Type 0} (S : Type 0) (about : About) (part : Part T)
     (root : History → List ℕ → List (View T) → Type 0) where
   abbrev Rule : State S (View T) → Type 0
-  Rule = Kept about (part.roots about) root
+  Rule = StoreRule about (part.roots about) root
 
   abbrev pub Grows : Type 0
   Grows = (log : History) (ws : List ℕ) (views : List (View T)) (id : ℕ) (v w : View T) → root log ws views → get_elem? views id ≡ some v → Grown v w → root log ws (set views id w)
@@ -69,7 +69,7 @@ module _ {T : Type 0} (S : Type 0) (about : About) (part : Part T)
   }
 
   word_is : (s : State S (View T)) (r : Rule s) (i : ℕ) → i < size (node_buckets about) → IsWord about (at s.words i)
-  word_is s r i inside = ⊎_elim (λ (z : at s.words i ≡ 0). inl z) (λ (t : (y : ℕ) × Stands (node_buckets about) IsNode (at s.words) i y). inr (t.0, t.1.there, t.1.is_pair)) (r.nodes i inside)
+  word_is s r i inside = ⊎_elim (λ (z : at s.words i ≡ 0). inl z) (λ (t : (y : ℕ) × HasPair (node_buckets about) IsNode (at s.words) i y). inr (t.0, t.1.there, t.1.is_pair)) (r.nodes i inside)
 
   -- a view that has a word's pair more, and other counters
   learns : (s : State S (View T)) (r : Rule s) (id i p : ℕ) (o : Bool) (v : View T) → get_elem? s.views id ≡ some v → i < size (node_buckets about) → length v.made + open_probes o ≤ p
@@ -83,7 +83,7 @@ module _ {T : Type 0} (S : Type 0) (about : About) (part : Part T)
         record { about_is = f.about_is; known = f.known; made = f.made; made_once = f.made_once; probed = enough; seen = f.seen; own = f.own; named = f.named; olds = f.olds; spent = f.spent },
         record { about = refl; face_is = refl; busy = refl; seen = refl; known = λ j x h. h; root = refl },
       ))
-      (λ (t : (y : ℕ) × Stands (node_buckets about) IsNode (at s.words) i y). subst P (sym (gained_pair i (at s.words i) t.0 v.known t.1.there)) (
+      (λ (t : (y : ℕ) × HasPair (node_buckets about) IsNode (at s.words) i y). subst P (sym (gained_pair i (at s.words i) t.0 v.known t.1.there)) (
         record {
           about_is = f.about_is;
           known = λ j x h. ⊎_elim (λ (is : (j, x) ≡ (i, t.0)). subst (λ (z : ℕ × ℕ). (z.0 < size (node_buckets about)) × IsNode (at s.words z.0) z.1) (sym is) (inside, t.1.there)) (λ (q : Has (j, x) v.known). f.known j x q) h;

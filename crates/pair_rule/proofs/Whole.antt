@@ -11,7 +11,7 @@ use Rattle.pair_rule.specs.declared.sizes.About.{About}
 use Rattle.pair_rule.specs.Numbers.{child, Face}
 use Rattle.pair_rule.specs.View.{face, made_of}
 use Rattle.pair_rule.specs.Paths.{node_buckets, size, bucket, OnPath, Listed}
-use Rattle.pair_rule.specs.Rule.{IsNode, at, Stands, Numbers, Kept}
+use Rattle.pair_rule.specs.Rule.{IsNode, at, HasPair, Numbers, StoreRule}
 use Rattle.pair_rule.specs.Rest.{AreNodes, Whole}
 use Rattle.pair_rule.proofs.Lists.{get_one, at_unmap}
 use Rattle.pair_rule.proofs.Census.{child_above}
@@ -43,14 +43,14 @@ all_numbers faces ok id f e first all (suc bound) c j g below p has = ⊎_elim
 
 module _ {T : Type 0} (S : Type 0) (about : About) (roots : About → History → T → List (ℕ × ℕ)) (root : History → List ℕ → List (View T) → Type 0) where
   abbrev pub Rule : State S (View T) → Type 0
-  Rule = Kept about (roots about) root
+  Rule = StoreRule about (roots about) root
 
   -- the bucket of a node that some view knows
-  pub node_stands : (s : State S (View T)) (r : Rule s) (id : ℕ) (v : View T) → get_elem? s.views id ≡ some v → (i pair : ℕ) → Has (i, pair) v.known → Stands (node_buckets about) IsNode (at s.words) i pair
+  pub node_stands : (s : State S (View T)) (r : Rule s) (id : ℕ) (v : View T) → get_elem? s.views id ≡ some v → (i pair : ℕ) → Has (i, pair) v.known → HasPair (node_buckets about) IsNode (at s.words) i pair
   node_stands s r id v e i pair h = let k = (r.each id v e).known i pair h in stands (node_buckets about) IsNode node_one node_used (at s.words) i pair r.nodes k.0 k.1
 
   -- what views know together is a naming of pairs
-  pub nodes_of : (s : State S (View T)) (r : Rule s) (known : List (ℕ × ℕ)) → ((i pair : ℕ) → Has (i, pair) known → Stands (node_buckets about) IsNode (at s.words) i pair × (i < size (node_buckets about))) → AreNodes about known
+  pub nodes_of : (s : State S (View T)) (r : Rule s) (known : List (ℕ × ℕ)) → ((i pair : ℕ) → Has (i, pair) known → HasPair (node_buckets about) IsNode (at s.words) i pair × (i < size (node_buckets about))) → AreNodes about known
   nodes_of s r known all = record {
     naming = record {
       one_pair = λ i x y h k. node_one (at s.words i) x y (all i x h).0.there (all i y k).0.there;

@@ -9,9 +9,11 @@ abbrev pub no_roots : Part (Unit {0})
 no_roots = record {
   sized = λ sizes. Unit {0};
   count = λ sizes. 0;
+  is_out = λ sizes n. ⊥;
   roots = λ about h t. [];
   house = λ about map. Unit {0};
   is_full = λ about map pair. Unit {0};
+  bytes = λ about n. 0;
   sound = λ about v. v.seen ≡ [];
   split = λ t. t;
   join = λ t u. t;

@@ -18,12 +18,16 @@ pub record Part (T : Type 0) : Type 1 where
   -- the sizes for which there is such a table, and how many words it has then
   pub sized : Sizes → Type 0
   pub count : Sizes → ℕ
+  -- of sizes for which there is none: the number of the first that is out of its range
+  pub is_out : Sizes → ℕ → Type 0
   -- the root pairs by their identifiers, as a pass knows them that has seen a history
   pub roots : About → History → T → List (ℕ × ℕ)
   -- how the root pairs of a whole store lie in the table
   pub house : About → List (ℕ × ℕ) → Type 0
   -- among these root pairs there is no place for one more pair
   pub is_full : About → List (ℕ × ℕ) → ℕ → Type 0
+  -- how many bytes so many names take
+  pub bytes : About → ℕ → ℕ
   -- what the rule says of one view by itself
   pub sound : About → View T → Type 0
   -- what a pass has that is split from one, and what two passes know as one

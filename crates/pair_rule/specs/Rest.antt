@@ -4,7 +4,7 @@ use Rattle.std.specs.Prelude.{None, drop, length, slice_index, count_by, if◌th
 use Rattle.std.specs.List.{list_any}
 use Rattle.std.specs.Prelude.{◌==◌}
 use Rattle.atomic_table.specs.declared.shared.Seat.{Seat}
-use Rattle.tree_shape.specs.Tree.{Has, IsNaming, Stands as StandsFor}
+use Rattle.tree_shape.specs.Tree.{Has, IsNaming, Stands}
 use Rattle.tdb_base.specs.History.{Vector, History, is_fresh, calls}
 use Rattle.tdb_base.specs.Legal.{IsLegal, Extends}
 use Rattle.pair_rule.specs.declared.view.View.{View}
@@ -108,7 +108,7 @@ module _ {T : Type 0} where
     pub next_length : length p.next_tree.items ≡ 2 * store.about.slots
     pub marks_length : length p.marks.items ≡ store.about.slots
     pub last : p.has_last ≡ true → (position : ℕ) → 2 ≤ position → position < 2 * store.about.slots
-        → StandsFor store.about.width store.about.slots p.seat.me.0.known
+        → Stands store.about.width store.about.slots p.seat.me.0.known
         (drop store.about.slots p.last_tree.items) position (slice_index p.last_tree.items position)
     pub last_slots : p.has_last ≡ true → (slot : ℕ) → slot < store.about.slots
         → slice_index p.last_tree.items (store.about.slots + slot) < 2 ^ store.about.width

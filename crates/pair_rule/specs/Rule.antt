@@ -19,13 +19,13 @@ use Rattle.pair_rule.specs.Paths.{Buckets, node_buckets, size, IsPair, OnPath}
 abbrev pub InWords : (ℕ → ℕ → Type 0) → (ℕ → ℕ) → ℕ → ℕ → Type 0
 InWords Reads w i pair = Reads (w i) pair
 
-pub record Stands (b : Buckets) (Reads : ℕ → ℕ → Type 0) (w : ℕ → ℕ) (i pair : ℕ) : Type 0 where
+pub record HasPair (b : Buckets) (Reads : ℕ → ℕ → Type 0) (w : ℕ → ℕ) (i pair : ℕ) : Type 0 where
   pub there : Reads (w i) pair
   pub is_pair : IsPair b pair
   pub on_path : OnPath b (InWords Reads w) i pair
 
 abbrev pub Filled : Buckets → (ℕ → ℕ → Type 0) → (ℕ → ℕ) → Type 0
-Filled b Reads w = (i : ℕ) → i < size b → (w i ≡ 0) ⊎ ((pair : ℕ) × Stands b Reads w i pair)
+Filled b Reads w = (i : ℕ) → i < size b → (w i ≡ 0) ⊎ ((pair : ℕ) × HasPair b Reads w i pair)
 
 -- a node's word has no flags
 abbrev pub IsNode : ℕ → ℕ → Type 0
@@ -95,7 +95,7 @@ abbrev pub Holder : {T : Type 0} → History → List (View T) → Type 0
 Holder {T} log views = (j : ℕ) × (v : View T) × (get_elem? views j ≡ some v) × (v.seen ≡ log)
 
 -- the rule, for a root part of it that says `root` of the history, the words behind the nodes' and the views
-pub record Kept {T : Type 0} (about : About) (roots : History → T → List (ℕ × ℕ))
+pub record StoreRule {T : Type 0} (about : About) (roots : History → T → List (ℕ × ℕ))
     (root : History → List ℕ → List (View T) → Type 0) {S : Type 0} (s : State S (View T)) : Type 0 where
   pub log : History
   pub legal : IsLegal about.flags log

@@ -20,6 +20,10 @@ impl<const W: u32, const F: u32> RootPart<W, F> for NoRoot {
 
     ghost spent = { tt };
 
+    fn first_out(_sizes: &Sizes) -> Option<u32> {
+        None
+    }
+
     fn words(_sizes: &Sizes) -> usize {
         0
     }

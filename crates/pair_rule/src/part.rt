@@ -6,7 +6,7 @@ use crate::sizes::Sizes;
 /// proofs take from it.
 pub trait RootPart<const W: u32, const F: u32> {
     ghost use Rattle.std.specs.Prelude.{◌≡◌, ◌<◌, ◌^◌, ℕ, List, [], ◌∷◌, ◌++◌, slice_set, slice_index, length};
-    ghost use Rattle.std.specs.Prelude.{true, false, ◌⊎◌};
+    ghost use Rattle.std.specs.Prelude.{true, false, ◌⊎◌, ◌↔◌, Some, None};
     ghost use mathlib.Core.Option.{some};
     ghost use lib.ListN.{get_elem?};
     ghost use Rattle.tree_shape.specs.Tree.{Has, IsPart};
@@ -34,6 +34,12 @@ pub trait RootPart<const W: u32, const F: u32> {
     ghost first: { About → Self.View };
 
     ghost spent: { Self.View };
+
+    /// The number of the first of the table's sizes that is out of its range: 2 is that of the roots, 3 that
+    /// of a region.
+    fn first_out(sizes: &Sizes) -> Option<u32>
+        ensures out { (n : ℕ) → (result ≡ Some n) ↔ part.is_out sizes.now n }
+        ensures sized { (result ≡ None) ↔ part.sized sizes.now };
 
     /// How many words the table has.
     fn words(sizes: &Sizes) -> usize

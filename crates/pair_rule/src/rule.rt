@@ -18,9 +18,9 @@ impl<R: RootPart<W, F>, const W: u32, const F: u32> TableRule<
     View<R::View>,
     Opening<View<R::View>>,
 > for NodeRule<R, W, F> {
-    ghost use Rattle.pair_rule.specs.Rule.{Kept};
+    ghost use Rattle.pair_rule.specs.Rule.{StoreRule};
 
-    ghost holds = { λ opening. Kept opening.about (R.part.roots opening.about) (R.holds opening.about) };
+    ghost holds = { λ opening. StoreRule opening.about (R.part.roots opening.about) (R.holds opening.about) };
 
     ghost first = { λ opening. opening.first.value };
 }

@@ -14,7 +14,7 @@ use Rattle.pair_rule.specs.declared.pass.PassOf.{PassOf}
 use Rattle.pair_rule.specs.Paths.{node_buckets, root_buckets, size, bucket, reach, IsPair, Passed, Listed}
 use Rattle.pair_rule.specs.Plays.{first_root}
 use Rattle.pair_rule.specs.Rest.{SeatRests, AtRest, names_of_callers, view}
-use Rattle.pair_rule.specs.Rule.{Kept}
+use Rattle.pair_rule.specs.Rule.{StoreRule}
 use Rattle.pair_rule.proofs.Catches.{names_by_seen, names_by_fresh, rests_caught}
 use Rattle.root_plain.specs.declared.root.Roots.{Roots}
 use Rattle.root_plain.specs.Plain.{IsPlain, IsRoot, Plain}
@@ -93,17 +93,17 @@ bucket_of_word v about at word is here = subst (λ (y : About). word - first_roo
 
 -- a load of the pass, and an exchange, under the table's key
 pub look_allowed : (store : Store) (key : About) (p : PassOf Roots) (wanted : ℕ → Bool) (slots at word : ℕ) → AtRest plain store p → key ≡ store.about → first_root store.about + at ≡ word → at < size (root_buckets store.about)
-    → Allows (Kept key (plain.roots key) (Plain key)) slots p.seat.id p.seat.me word (λ n. n) (sought wanted (step slots word 0 0 none) p.seat.me)
+    → Allows (StoreRule key (plain.roots key) (Plain key)) slots p.seat.id p.seat.me word (λ n. n) (sought wanted (step slots word 0 0 none) p.seat.me)
 look_allowed store key p wanted slots at word r same here inside =
-    subst (λ (k : About). Allows (Kept k (plain.roots k) (Plain k)) slots p.seat.id p.seat.me word (λ n. n) (sought wanted (step slots word 0 0 none) p.seat.me)) (sym same)
+    subst (λ (k : About). Allows (StoreRule k (plain.roots k) (Plain k)) slots p.seat.id p.seat.me word (λ n. n) (sought wanted (step slots word 0 0 none) p.seat.me)) (sym same)
     (seeks _ store.about slots p.seat.id p.seat.me wanted at word r.seat.live r.seat.about_is here inside)
 
 pub claim_allowed : (store : Store) (key : About) (p : PassOf Roots) (slots at word pair i new : ℕ) (vector : Vector) → AtRest plain store p → key ≡ store.about → first_root store.about + at ≡ word → at < size (root_buckets store.about)
     → new ≡ 9223372036854775808 + pair → IsPair (root_buckets store.about) pair → i < reach (root_buckets store.about) → bucket (root_buckets store.about) pair i ≡ at → Passed (root_buckets store.about) (Listed (view p).root.roots) pair i
     → RootStands store.about.width store.about.slots (view p).known pair vector → length vector ≡ store.about.slots
-    → Allows (Kept key (plain.roots key) (Plain key)) slots p.seat.id p.seat.me word (λ n. either (eqb n 0) new n) (claimed (step slots word 0 new none) p.seat.me)
+    → Allows (StoreRule key (plain.roots key) (Plain key)) slots p.seat.id p.seat.me word (λ n. either (eqb n 0) new n) (claimed (step slots word 0 new none) p.seat.me)
 claim_allowed store key p slots at word pair i new vector r same here inside packed small near lies passed stands long =
-    subst (λ (k : About). Allows (Kept k (plain.roots k) (Plain k)) slots p.seat.id p.seat.me word (λ n. either (eqb n 0) new n) (claimed (step slots word 0 new none) p.seat.me)) (sym same)
+    subst (λ (k : About). Allows (StoreRule k (plain.roots k) (Plain k)) slots p.seat.id p.seat.me word (λ n. either (eqb n 0) new n) (claimed (step slots word 0 new none) p.seat.me)) (sym same)
     (claims _ store.about slots p.seat.id p.seat.me at word pair i new vector r.seat.live r.seat.about_is here inside packed small near lies passed stands long)
 
 pub few_names : (store : Store) (p : PassOf Roots) → AtRest plain store p → p.names_count ≤ 4611686018427387904

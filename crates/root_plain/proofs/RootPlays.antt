@@ -11,7 +11,7 @@ use Rattle.packed_word.specs.Word.{word_of}
 use Rattle.pair_rule.specs.declared.view.View.{View}
 use Rattle.pair_rule.specs.declared.sizes.About.{About}
 use Rattle.pair_rule.specs.Paths.{root_buckets, size, bucket, reach, IsPair, Passed, Listed}
-use Rattle.pair_rule.specs.Rule.{Kept}
+use Rattle.pair_rule.specs.Rule.{StoreRule}
 use Rattle.pair_rule.specs.Plays.{first_root}
 use Rattle.pair_rule.proofs.Lists.{has_back}
 use Rattle.pair_rule.proofs.Advance.{catch}
@@ -29,7 +29,7 @@ V = View Roots
 
 module _ (S : Type 0) (about : About) where
   abbrev Rule : State S V → Type 0
-  Rule = Kept about (plain.roots about) (Plain about)
+  Rule = StoreRule about (plain.roots about) (Plain about)
 
   -- a load of a root bucket
   pub seeks : (slots id : ℕ) (me : Me S V) (wanted : ℕ → Bool) (i word : ℕ) → me.0.live ≡ true → me.0.about ≡ about → first S about + i ≡ word → i < size (root_buckets about)

@@ -17,7 +17,7 @@ use Rattle.packed_word.specs.Word.{word_of}
 use Rattle.pair_rule.specs.declared.view.View.{View}
 use Rattle.pair_rule.specs.declared.sizes.About.{About}
 use Rattle.pair_rule.specs.Paths.{node_buckets, root_buckets, size, bucket, reach, IsPair, Passed, Listed}
-use Rattle.pair_rule.specs.Rule.{InWords, Stands, Filled, Named, Kept}
+use Rattle.pair_rule.specs.Rule.{InWords, HasPair, Filled, Named, StoreRule}
 use Rattle.pair_rule.specs.Plays.{first_root}
 use Rattle.pair_rule.proofs.Lists.{has_front, has_back, has_either, each_set}
 use Rattle.pair_rule.proofs.Buckets.{filled_put, nowhere}
@@ -59,7 +59,7 @@ root_room about is = sym is.root_words_are
 
 module _ (S : Type 0) (about : About) where
   abbrev pub Rule : State S V → Type 0
-  Rule = Kept about (plain.roots about) (Plain about)
+  Rule = StoreRule about (plain.roots about) (Plain about)
 
   abbrev pub behind : List ℕ → List ℕ
   behind ws = drop (suc (size (node_buckets about))) ws
@@ -250,7 +250,7 @@ module _ (S : Type 0) (about : About) where
       pub sees : i < size (root_buckets about) → Sees wanted i n
       sees inside = ⊎_elim
           (λ (z : root_at (behind s.words) i ≡ 0). sees_none (sym is ∙ z))
-          (λ (t : (y : ℕ) × Stands (root_buckets about) (IsRoot about) (root_at (behind s.words)) i y).
+          (λ (t : (y : ℕ) × HasPair (root_buckets about) (IsRoot about) (root_at (behind s.words)) i y).
           let u = r.rooted.used i inside (λ z. root_used about t.0 (subst (λ (m : ℕ). IsRoot about m t.0) z t.1.there)) in
           sees_name u.0 u.1)
           (r.rooted.filled i inside)

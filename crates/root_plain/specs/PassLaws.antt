@@ -1,10 +1,9 @@
 -- The laws of passes of a plain store.
 use Rattle.std.specs.Prelude.{◌≡◌, ℕ, ◌^◌, ◌<◌, [], ◌∷◌, true, Some, None}
-use Rattle.tree_shape.specs.Tree.{IsNaming, IsPart, RootStands}
+use Rattle.tree_shape.specs.Tree.{IsNaming}
 use Rattle.tdb_base.specs.History.{Vector, name_of}
 use Rattle.pair_rule.specs.declared.view.View.{View}
 use Rattle.pair_rule.specs.declared.pass.PassOf.{PassOf}
-use Rattle.pair_rule.specs.Paths.{root_buckets, Blocked}
 use Rattle.pair_rule.specs.Part.{Store}
 use Rattle.pair_rule.specs.Plays.{Caught}
 use Rattle.pair_rule.specs.Calls.{call, IsNoName}
@@ -31,15 +30,6 @@ abbrev pub NewNames : Type 0
 NewNames = (caller id : ℕ) (vector : Vector) (v w : View Roots)
     (caught : Caught plain (call caller true vector id ∷ []) v w)
     → (name_of caught.log vector ≡ None) × IsNoName id caught.log
-
--- where each bucket of a root's path has another root, its vector has no name in any history that is seen
--- later
-abbrev pub FullForGood : Type 0
-FullForGood = (store : Store) (p q : PassOf Roots) (pair : ℕ) (v : Vector) → AtRest plain store p
-    → AtRest plain store q → IsPart (view p).known (view q).known
-    → IsPart (view p).root.roots (view q).root.roots
-    → RootStands store.about.width store.about.slots (view p).known pair v
-    → Blocked (root_buckets store.about) (view p).root.roots pair → name_of (view q).seen v ≡ None
 
 -- a pass that stands for all passes that there are knows the whole store, whose nodes and roots fill their
 -- paths

@@ -1,6 +1,6 @@
 -- The rule of a plain root table: each bucket is empty or has a root pair with flags, and those that are not
 -- empty are the identifiers of the history's names.
-use Rattle.std.specs.Prelude.{◌≡◌, ◌≢◌, ℕ, ◌^◌, ◌<◌, ◌≤◌, List, [], ◌++◌, Some, slice_index}
+use Rattle.std.specs.Prelude.{◌≡◌, ◌≢◌, ℕ, ◌*◌, ◌^◌, ◌<◌, ◌≤◌, List, [], ◌++◌, Some, slice_index}
 use mathlib.Core.Option.{some}
 use lib.ListN.{get_elem?}
 use Rattle.packed_word.specs.Word.{word_of}
@@ -23,15 +23,15 @@ abbrev pub both_roots : Roots → Roots → Roots
 both_roots t u = record { roots = t.roots ++ u.roots }
 
 -- the sizes for which there is such a table, and how many words it has then
-abbrev pub sized : Sizes → Type 0
-sized sizes = (3 ≤ sizes.roots) × (sizes.roots ≤ 24)
+abbrev pub RootsFit : Sizes → Type 0
+RootsFit sizes = (3 ≤ sizes.roots) × (sizes.roots ≤ 24)
 
 abbrev pub count : Sizes → ℕ
 count sizes = 2 ^ sizes.roots
 
 -- what a plain store's table is about
 abbrev pub IsPlain : About → Type 0
-IsPlain about = IsAbout sized count about
+IsPlain about = IsAbout RootsFit count about
 
 -- the word has this pair, with these flags
 pub record Holds (about : About) (word pair flags : ℕ) : Type 0 where
@@ -82,11 +82,13 @@ pub record LiesOnPaths (about : About) (v : View Roots) : Type 0 where
 -- what a plain root table gives to contracts
 abbrev pub plain : Part Roots
 plain = record {
-  sized = sized;
+  sized = RootsFit;
   count = count;
+  is_out = λ sizes n. (n ≡ 2) × (RootsFit sizes → ⊥);
   roots = λ about h t. t.roots;
   house = λ about map. FillsPaths (root_buckets about) map;
   is_full = λ about map pair. Blocked (root_buckets about) map pair;
+  bytes = λ about n. 8 * n;
   sound = LiesOnPaths;
   split = λ t. t;
   join = both_roots;

@@ -1,4 +1,4 @@
--- A root for which there was no place gets no name later.
+-- A root for which there was no place gets no name later, and there are few names.
 use Rattle.std.proofs.Common.{◌≡◌, ◌<◌, ◌≤◌, ◌-◌, ◌^◌, ℕ, arith, pow_pos, Option, Some, None, refl, sym, ap, ◌∙◌, subst}
 use Rattle.tree_shape.specs.Tree.{Has, IsNaming, IsPart, RootStands}
 use Rattle.tree_shape.proofs.Trees.{one_vector, one_root}
@@ -7,10 +7,12 @@ use Rattle.tdb_base.proofs.NameLemmas.{names-differ}
 use Rattle.pair_rule.specs.declared.sizes.About.{About}
 use Rattle.pair_rule.specs.declared.pass.PassOf.{PassOf}
 use Rattle.pair_rule.specs.Part.{Store}
-use Rattle.pair_rule.specs.Paths.{root_buckets, bucket, reach, Blocked}
+use Rattle.pair_rule.specs.Paths.{root_buckets, size, bucket, reach, Blocked}
 use Rattle.pair_rule.specs.Rest.{AtRest, view}
 use Rattle.pair_rule.proofs.Names.{root_more}
-use Rattle.pair_nodes.specs.Roots.{Refusals}
+use Rattle.pair_rule.proofs.Counts.{few_names}
+use Rattle.std.proofs.Math.Pow.{pow_mono}
+use Rattle.pair_nodes.specs.Roots.{Refusals, HasFewNames}
 use Rattle.root_plain.specs.declared.root.Roots.{Roots}
 use Rattle.root_plain.specs.Plain.{IsPlain, Lies, plain}
 
@@ -82,3 +84,17 @@ plain_refusals = record {
       (let o = blocked step lt in (o.0, roots _ o.0 o.1, o.2));
   for_good = never_named;
 }
+
+-- a name is a bucket's number, and there are at most 2 ^ 24 buckets
+pub few_plain_names : HasFewNames plain
+unfolding size
+few_plain_names store p r =
+    let s = r.seat.sound in
+    let about = store.about in
+    let small : (v : Vector) (id : ℕ) → name_of (view p).seen v ≡ Some id → id < 2 ^ about.sizes.roots =
+    λ v id named. let k = s.named.each v id named in
+    subst (λ (y : About). id < 2 ^ y.sizes.roots) r.seat.about_is (s.root_sound.lies id k.0 k.1).inside in
+    let most = few_names (view p).about.flags (2 ^ about.sizes.roots) (view p).numbers (view p).seen s.legal small in
+    let room : 2 ^ about.sizes.roots ≤ 2 ^ 24 = pow_mono r.seat.is_about.range.roots.1 in
+    let count = r.names_count in
+    omega (arith, most, room, count)

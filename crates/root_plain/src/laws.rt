@@ -1,6 +1,8 @@
 //! The laws of passes of a plain store, each as the contract of a function that does nothing.
 ghost use Rattle.root_plain.specs.PassLaws.{NamesDiffer, NamesAreBuckets, RootsAreNaming, NewNames};
-ghost use Rattle.root_plain.specs.PassLaws.{FullForGood, WholeHasAll};
+ghost use Rattle.root_plain.specs.PassLaws.{WholeHasAll};
+ghost use Rattle.root_plain.specs.Plain.{plain};
+ghost use Rattle.pair_nodes.specs.Roots.{Refusals};
 
 /// In the history that a pass has seen, whoever made the calls, a vector has one identifier and different
 /// vectors have different ones, all below `2^roots`.
@@ -19,9 +21,9 @@ pub fn new_names()
     ensures { NewNames }
 {}
 
-/// A root that was refused because its path was full gets no name later.
+/// A root that was refused because its path was full has no place later, and gets no name.
 pub fn full_for_good()
-    ensures { FullForGood }
+    ensures { Refusals plain }
 {}
 
 /// What a pass that stands for all passes knows is a store: it put all of its nodes, all calls are its own,

@@ -32,6 +32,14 @@ impl<const W: u32, const F: u32> RootPart<W, F> for PlainRoot<W, F> {
 
     ghost spent = { nothing_known };
 
+    fn first_out(sizes: &Sizes) -> Option<u32> {
+        if 3 <= sizes.roots && sizes.roots <= 24 {
+            None
+        } else {
+            Some(2)
+        }
+    }
+
     fn words(sizes: &Sizes) -> usize {
         1 << sizes.roots
     }

@@ -40,7 +40,7 @@ fn load_asked<B: Asks, P: TableRule<(), View<Roots>, Opening<View<Roots>>>>(
     requires rule { Allows (P.holds shared.now.key) shared.now.table_id.slots seat.old.id seat.old.me word
         (λ n. n) (sought (wants wanted.now) (step shared.now.table_id.slots word 0 0 none) seat.old.me) }
     ensures seat { seat.new.table_id ≡ seat.old.table_id }
-    ensures told { sought (wants wanted.now)
+    ensures sought { sought (wants wanted.now)
         (step shared.now.table_id.slots word 0 0 none) seat.old.me result seat.new.me }
 {
     shared.load::<Seeking<B>>(seat, word)

@@ -1,9 +1,11 @@
 //! Plain roots as a store uses them: nobody waits.
-ghost use Rattle.std.specs.Prelude.{◌≡◌, ℕ, ◌^◌, ◌<◌, IfOk, OnErr, MatchOption, Some, option_map};
+ghost use Rattle.std.specs.Prelude.{◌≡◌, ℕ, ◌*◌, ◌^◌, ◌<◌, ◌≤◌, IfOk, OnErr, MatchOption, Some};
+ghost use Rattle.std.specs.Prelude.{option_map, is_some, false};
 ghost use Rattle.packed_word.specs.Word.{pair_of};
 ghost use Rattle.tdb_base.specs.Fakes.{counted};
 ghost use Rattle.tdb_base.specs.History.{Vector, name_of};
-ghost use Rattle.pair_nodes.specs.Roots.{RootPut, RootRefused, RootFound, RootUnknown, RootRead};
+ghost use Rattle.pair_nodes.specs.Roots.{RootPut, RootRefused, RootUnseen, RootFound, RootUnknown, RootRead};
+ghost use Rattle.pair_nodes.specs.Roots.{ticked_if};
 ghost use Rattle.pair_rule.specs.Rest.{AtRest, view};
 ghost use Rattle.pair_rule.specs.Calls.{IsSomeRoot};
 ghost use Rattle.root_plain.specs.Plain.{plain};
@@ -31,11 +33,31 @@ impl<'a, const W: u32, const F: u32> PlainTable<'a, W, F> {
 }
 
 impl<'a, const W: u32, const F: u32> RootTable<W, F> for PlainTable<'a, W, F> {
-    ghost use Rattle.root_plain.specs.Refused.{plain_refusals};
+    ghost use Rattle.root_plain.specs.Refused.{plain_refusals, few_plain_names};
 
     type Part = PlainRoot<W, F>;
 
     ghost store = { λ t. t.nodes.now };
+
+    fn look<L: Ledger>(
+        &self,
+        _pass: &mut Pass<PlainRoot<W, F>, W, F>,
+        _left: u64,
+        _right: u64,
+        _steps: &mut Steps<L>,
+    ) -> Option<u64>
+        requires rest { AtRest plain self.now.nodes.now _pass.old }
+        requires left { _left < 2 ^ self.now.nodes.now.about.width }
+        requires right { _right < 2 ^ self.now.nodes.now.about.width }
+        requires stands { IsSomeRoot self.now.nodes.now.about (view _pass.old).known
+            (pair_of self.now.nodes.now.about.width _left _right) }
+        ensures seen { MatchOption result (RootUnseen plain self.now.nodes.now _pass.old _pass.new)
+            (λ id. RootPut plain self.now.nodes.now
+            (pair_of self.now.nodes.now.about.width _left _right) id false _pass.old _pass.new) }
+        ensures tick { L.count _steps.new ≡ ticked_if (is_some result) (L.count _steps.old) }
+    {
+        None
+    }
 
     fn put<L: Ledger>(
         &self,
@@ -74,5 +96,15 @@ impl<'a, const W: u32, const F: u32> RootTable<W, F> for PlainTable<'a, W, F> {
         root_pair(self.nodes, pass, id)
     }
 
+    fn name_bytes(&self, names: u64) -> u64
+        requires { names ≤ 16777216 }
+        ensures all { result ≡ 8 * names }
+        ensures most { result ≤ 8 * names }
+    {
+        8 * names
+    }
+
     ghost refusals = { plain_refusals };
+
+    ghost few_names = { few_plain_names };
 }

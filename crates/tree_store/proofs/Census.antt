@@ -1,19 +1,12 @@
 -- How many names there are, and how many a pass counts.
-use Rattle.std.proofs.Common.{◌≡◌, ℕ, ◌*◌, ◌^◌, ◌≤◌, List, [], ◌∷◌, Bool, true, false, cond, refl, sym, ap, ◌∙◌, arith, inl, inr, eq-eqb}
+use Rattle.std.proofs.Common.{◌≡◌, ℕ, ◌*◌, ◌≤◌, List, [], ◌∷◌, Bool, true, false, cond, refl, sym, ap, ◌∙◌, arith, inl, inr, eq-eqb}
 use Rattle.std.specs.Prelude.{◌&&◌, ◌||◌, ◌==◌, count_by, if◌then◌else◌, filter}
 use Rattle.std.specs.List.{list_any}
 use Rattle.std.proofs.lemmas.List.Sums.{sum_by-cons}
 use Rattle.std.proofs.Math.Nat.{mul-le-mul}
-use Rattle.std.proofs.Math.Pow.{pow_mono}
 use Rattle.tree_shape.specs.Tree.{Has}
 use Rattle.tdb_base.specs.History.{Entry, History, is_fresh, calls}
-use Rattle.pair_rule.specs.declared.pass.PassOf.{PassOf}
-use Rattle.pair_rule.specs.Rest.{AtRest, names_of_callers, view}
-use Rattle.pair_rule.proofs.Counts.{few_names}
-use Rattle.root_plain.specs.declared.root.Roots.{Roots}
-use Rattle.pair_rule.specs.Part.{Store}
-use Rattle.root_plain.specs.Plain.{plain}
-use Rattle.root_plain.proofs.PassLaws.{below}
+use Rattle.pair_rule.specs.Rest.{names_of_callers}
 
 any_of : (x : ℕ) (ns : List ℕ) → Has x ns → list_any (λ c. c == x) ns ≡ true
 any_of x [] h = absurd h
@@ -66,14 +59,6 @@ names_known ns (e ∷ h) each =
 -- where all others made no calls, the names that these callers gave are all names
 pub names_all : (ns : List ℕ) (h : History) → ((c : ℕ) → (Has c ns → ⊥) → calls h c ≡ []) → names_of_callers ns h ≡ count_by (λ e. is_fresh e.act) h
 names_all ns h others = names_known ns h (caller_known ns h others)
-
--- a pass of a plain store counts no more names than there are buckets of roots
-pub few_plain_names : (store : Store) (p : PassOf Roots) → AtRest plain store p → p.names_count ≤ 16777216
-few_plain_names store p r =
-    let most = few_names (view p).about.flags (2 ^ store.about.sizes.roots) (view p).numbers (view p).seen r.seat.sound.legal (λ v id named. below store p r v id named) in
-    let room : 2 ^ store.about.sizes.roots ≤ 2 ^ 24 = pow_mono r.seat.is_about.range.roots.1 in
-    let count = r.names_count in
-    omega (arith, most, room, count)
 
 -- bytes of so many vectors are few
 pub few_bytes : (each count : ℕ) → each ≤ 4096 → count ≤ 16777216 → each * count ≤ 68719476736

@@ -4,11 +4,10 @@ ghost use Rattle.tdb_base.specs.History.{is_fresh};
 ghost use Rattle.tree_shape.specs.Tree.{Has};
 ghost use Rattle.pair_rule.specs.Numbers.{NoRepeats};
 ghost use Rattle.pair_rule.specs.Rest.{AtRest, Whole, names_of_callers, view};
-ghost use Rattle.root_plain.specs.Plain.{plain};
 
-use crate::store::{PlainPass, TreeStore};
+use crate::store::TreeStore;
+use pair_nodes::RootTable;
 use pair_rule::{Pass, RootPart};
-use root_plain::PlainRoot;
 
 impl<R: RootPart<W, F>, const W: u32, const F: u32> TreeStore<R, W, F> {
     /// How many nodes were put by the pass and by those that were joined into it. Those of a pass that stands
@@ -36,23 +35,31 @@ impl<R: RootPart<W, F>, const W: u32, const F: u32> TreeStore<R, W, F> {
     }
 }
 
-impl<const W: u32, const F: u32> TreeStore<PlainRoot<W, F>, W, F> {
-    /// How many bytes the nodes and names take that the pass counts: 8 for each.
-    pub fn stored_bytes(&self, pass: &PlainPass<W, F>) -> u64
-        requires rest { AtRest plain self.now pass.now }
-        ensures { result ≡ 8 * length (view pass.now).made + 8 * names_of_callers (view pass.now).numbers
-            (view pass.now).seen }
-    {
-        8 * self.nodes_made(pass) + 8 * self.names_made(pass)
-    }
+/// How many bytes the nodes and names take that the pass counts: 8 for each node, and for names what their
+/// root table says.
+pub fn stored_bytes_of<D: RootTable<W, F>, const W: u32, const F: u32>(
+    roots: &D,
+    store: &TreeStore<D::Part, W, F>,
+    pass: &Pass<D::Part, W, F>,
+) -> u64
+    requires roots { D.store roots.now ≡ store.now }
+    requires rest { AtRest D.Part.part store.now pass.now }
+    ensures { result ≡ 8 * length (view pass.now).made + D.Part.part.bytes store.now.about
+        (names_of_callers (view pass.now).numbers (view pass.now).seen) }
+{
+    8 * store.nodes_made(pass) + roots.name_bytes(store.names_made(pass))
+}
 
-    /// How many bytes the vectors take whose names the pass counts, at 4 a slot.
-    pub fn raw_bytes(&self, pass: &PlainPass<W, F>) -> u64
-        requires rest { AtRest plain self.now pass.now }
-        ensures { result ≡ 4 * self.now.about.slots * names_of_callers (view pass.now).numbers
-            (view pass.now).seen }
-    {
-        let shape = &self.shape;
-        4 * shape.slots() as u64 * self.names_made(pass)
-    }
+/// How many bytes the vectors take whose names the pass counts, at 4 a slot.
+pub fn raw_bytes_of<D: RootTable<W, F>, const W: u32, const F: u32>(
+    _roots: &D,
+    store: &TreeStore<D::Part, W, F>,
+    pass: &Pass<D::Part, W, F>,
+) -> u64
+    requires rest { AtRest D.Part.part store.now pass.now }
+    ensures { result ≡ 4 * store.now.about.slots * names_of_callers (view pass.now).numbers
+        (view pass.now).seen }
+{
+    let shape = &store.shape;
+    4 * shape.slots() as u64 * store.names_made(pass)
 }

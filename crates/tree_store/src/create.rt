@@ -1,16 +1,14 @@
-//! How a plain store is made.
-ghost use Rattle.std.specs.Prelude.{◌≡◌, ℕ, ◌≤◌, ◌↔◌, IsTrue, IfOk, Err, MatchOption, false};
+//! How a store is made.
+ghost use Rattle.std.specs.Prelude.{◌≡◌, ℕ, ◌≤◌, ◌↔◌, IsTrue, IfOk, Err, Some, None, false};
 ghost use Rattle.packed_word.specs.Word.{IsLayout};
 ghost use Rattle.pair_rule.specs.Part.{IsTable};
 ghost use Rattle.pair_rule.specs.Rest.{AtRest, Whole, view};
 ghost use Rattle.pair_rule.specs.View.{newcomer};
-ghost use Rattle.root_plain.specs.Plain.{nothing_known, plain};
-ghost use Rattle.tree_store.specs.Ranges.{NodesFit, RootsFit, ProbeFits, IsFirstOut};
+ghost use Rattle.tree_store.specs.Ranges.{NodesFit, ProbeFits, IsFirstOut};
 
-use crate::store::{PlainPass, PlainStore, TreeStore};
+use crate::store::TreeStore;
 use pair_nodes::Nodes;
-use pair_rule::{PairTable, Sizes};
-use root_plain::PlainRoot;
+use pair_rule::{PairTable, Pass, RootPart, Sizes};
 use std::alloc::Global;
 use tree_shape::Shape;
 
@@ -30,12 +28,6 @@ fn nodes_fit<const W: u32>(sizes: &Sizes) -> bool
     3 <= sizes.nodes && sizes.nodes <= 25 && sizes.nodes <= W
 }
 
-fn roots_fit(sizes: &Sizes) -> bool
-    ensures { IsTrue result ↔ RootsFit sizes.now }
-{
-    3 <= sizes.roots && sizes.roots <= 24
-}
-
 fn probe_fits(sizes: &Sizes) -> bool
     ensures { IsTrue result ↔ ProbeFits sizes.now }
 {
@@ -43,15 +35,15 @@ fn probe_fits(sizes: &Sizes) -> bool
 }
 
 // The number of the first size that is out of its range.
-fn first_out<const W: u32>(sizes: &Sizes) -> Option<u32>
-    ensures { MatchOption result (NodesFit W sizes.now × RootsFit sizes.now × ProbeFits sizes.now)
-        (IsFirstOut W sizes.now) }
+fn first_out<R: RootPart<W, F>, const W: u32, const F: u32>(sizes: &Sizes) -> Option<u32>
+    ensures out { (n : ℕ) → (result ≡ Some n) ↔ IsFirstOut R.part W sizes.now n }
+    ensures fit { result ≡ None → NodesFit W sizes.now × R.part.sized sizes.now × ProbeFits sizes.now }
 {
     if !nodes_fit::<W>(sizes) {
         return Some(1);
     }
-    if !roots_fit(sizes) {
-        return Some(2);
+    if let Some(number) = R::first_out(sizes) {
+        return Some(number);
     }
     if !probe_fits(sizes) {
         return Some(4);
@@ -59,35 +51,32 @@ fn first_out<const W: u32>(sizes: &Sizes) -> Option<u32>
     None
 }
 
-impl<const W: u32, const F: u32> TreeStore<PlainRoot<W, F>, W, F> {
+impl<R: RootPart<W, F>, const W: u32, const F: u32> TreeStore<R, W, F> {
     /// A store without vectors, and its first pass, which has the number 0.
     ///
-    /// The nodes have `2^nodes` buckets with `nodes` from 3 to 25 and at most `W`, the roots `2^roots` with
-    /// `roots` from 3 to 24, and `probe` is 1 to 4194304; `region` is not looked at. `CreateError::Sizes`
-    /// says which size is the first out of its range, and comes before `NoMemory`.
+    /// The nodes have `2^nodes` buckets with `nodes` from 3 to 25 and at most `W`, and `probe` is 1 to
+    /// 4194304. What `roots` and `region` may be is the root table's: plain ones have `2^roots` buckets with
+    /// `roots` from 3 to 24, and don't look at `region`. `CreateError::Sizes` says which size is the first
+    /// out of its range, and comes before `NoMemory`.
     pub fn create(
         alloc: Global,
         shape: Shape,
         sizes: &Sizes,
-    ) -> Result<(PlainStore<W, F>, PlainPass<W, F>), CreateError>
+    ) -> Result<(TreeStore<R, W, F>, Pass<R, W, F>), CreateError>
         requires layout { IsLayout W F }
-        ensures sizes { (n : ℕ) → (result ≡ Err (CreateError.Sizes n)) ↔ IsFirstOut W sizes.now n }
-        ensures store { IfOk result (λ made. IsTable W F plain made.0) }
+        ensures sizes { (n : ℕ) → (result ≡ Err (CreateError.Sizes n)) ↔ IsFirstOut R.part W sizes.now n }
+        ensures store { IfOk result (λ made. IsTable W F R.part made.0) }
         ensures sizes_are { IfOk result (λ made. made.0.about.sizes ≡ sizes.now) }
         ensures slots { IfOk result (λ made. made.0.about.slots ≡ shape) }
-        ensures view { IfOk result (λ made. view made.1 ≡ newcomer nothing_known made.0.about) }
+        ensures view { IfOk result (λ made. view made.1 ≡ newcomer (R.first made.0.about) made.0.about) }
         ensures whole { IfOk result (λ made. Whole (view made.1)) }
         ensures no_tree { IfOk result (λ made. made.1.has_last ≡ false) }
-        ensures rest { IfOk result (λ made. AtRest plain made.0 made.1) }
+        ensures rest { IfOk result (λ made. AtRest R.part made.0 made.1) }
     {
-        if let Some(number) = first_out::<W>(sizes) {
+        if let Some(number) = first_out::<R, W, F>(sizes) {
             return Err(CreateError::Sizes(number));
         }
-        let Ok((table, pass)) = PairTable::<PlainRoot<W, F>, W, F>::create(
-            alloc,
-            sizes,
-            shape.slots(),
-        ) else {
+        let Ok((table, pass)) = PairTable::<R, W, F>::create(alloc, sizes, shape.slots()) else {
             return Err(CreateError::NoMemory);
         };
         let nodes = Nodes::over(table);

@@ -2,15 +2,13 @@
 ghost use Rattle.std.specs.Prelude.{◌≡◌, ◌*◌, ◌<◌, ◌≤◌, true, None, drop, length, option_map};
 ghost use Rattle.tdb_base.specs.Fakes.{counted};
 ghost use Rattle.pair_rule.specs.Rest.{AtRest, view, last_vector};
-ghost use Rattle.root_plain.specs.Plain.{plain};
 ghost use Rattle.tree_store.specs.Vectors.{IsVector, slots_of, StandsFrom, compared, puts_after};
 ghost use Rattle.tree_store.specs.Store.{naming, IsAnswered, AreTicked, RootIsAnswered};
 
-use crate::store::{PlainPass, PlainStore, TreeStore};
+use crate::store::TreeStore;
 use crate::tree::put_nodes;
-use pair_nodes::{Nodes, RootTable};
+use pair_nodes::{Nodes, RootTable, look_or_put};
 use pair_rule::{Pass, PassOf, RootsFull};
-use root_plain::{PlainRoot, PlainTable};
 use std::mem;
 use tdb_base::{Ledger, Reply, Steps};
 use tree_shape::Shape;
@@ -31,8 +29,7 @@ fn fill_slots<T>(pass: &mut PassOf<T>, slots: usize, vector: &[u32])
 fn keep_tree<T>(pass: &mut PassOf<T>)
     ensures { pass.new ≡ record pass.old {
       last_tree = pass.old.next_tree;
-      next_tree =
-          pass.old.last_tree;
+      next_tree = pass.old.last_tree;
       has_last = true;
     } }
 {
@@ -71,7 +68,7 @@ fn put_tree_root<D: RootTable<W, F>, L: Ledger, const W: u32, const F: u32>(
 {
     let left = pass.next_tree[2] as u64;
     let right = pass.next_tree[3] as u64;
-    match roots.put(pass, left, right, steps) {
+    match look_or_put(roots, pass, left, right, steps) {
         Ok((id, fresh)) => {
             keep_tree(pass);
             reply(fresh, id)
@@ -80,9 +77,9 @@ fn put_tree_root<D: RootTable<W, F>, L: Ledger, const W: u32, const F: u32>(
     }
 }
 
-// Inserts the vector: its slots, its inner nodes (all, or only those that the last tree doesn't have), and
-// its root.
-fn put_vector<D: RootTable<W, F>, L: Ledger, const W: u32, const F: u32>(
+/// Inserts the vector: its slots, its inner nodes (all, or only those that the last tree doesn't have), and
+/// its root.
+pub(crate) fn put_vector<D: RootTable<W, F>, L: Ledger, const W: u32, const F: u32>(
     roots: &D,
     nodes: &Nodes<D::Part, W, F>,
     shape: &Shape,
@@ -130,60 +127,4 @@ pub fn insert_from_last<D: RootTable<W, F>, L: Ledger, const W: u32, const F: u3
     let nodes = &store.nodes;
     let shape = &store.shape;
     put_vector(roots, nodes, shape, pass, vector, true, steps)
-}
-
-impl<const W: u32, const F: u32> TreeStore<PlainRoot<W, F>, W, F> {
-    /// Gives the vector a name, or finds its name. It puts all inner nodes of the vector's tree, from the
-    /// last position down, and then the root.
-    ///
-    /// The vector fits the store: it has the store's slots, each below `2^W`. With `New` and `Seen` the
-    /// answer is one call of the store's history, at one atomic step; the pass has then seen that history up
-    /// to it, its last tree is this vector's, and a step was counted for each inner position and for the
-    /// root. `FullNodes` comes only where on the path of some pair of the tree each bucket has another pair,
-    /// `FullRoots` only where this is so of the root: then the vector never gets a name, no call is made, the
-    /// last tree stays, and nodes that were put before stay. It waits for nobody and takes no memory.
-    pub fn insert<L: Ledger>(
-        &self,
-        pass: &mut PlainPass<W, F>,
-        vector: &[u32],
-        steps: &mut Steps<L>,
-    ) -> Reply
-        requires rest { AtRest plain self.now pass.old }
-        requires vector { IsVector self.now.about vector.now }
-        ensures rest { AtRest plain self.now pass.new }
-        ensures answered { IsAnswered plain self.now None vector.now result pass.old pass.new }
-        ensures ticks { AreTicked (puts_after self.now.about None vector.now) result
-            (L.count steps.old) (L.count steps.new) }
-    {
-        let nodes = &self.nodes;
-        let shape = &self.shape;
-        put_vector(
-            &PlainTable::over(nodes),
-            nodes,
-            shape,
-            pass,
-            vector,
-            false,
-            steps,
-        )
-    }
-
-    /// The same, but only those inner nodes are put below which the vector differs from that of the pass's
-    /// last tree, if it has one. A step is counted for each of these and for the root.
-    pub fn insert_from<L: Ledger>(
-        &self,
-        pass: &mut PlainPass<W, F>,
-        vector: &[u32],
-        steps: &mut Steps<L>,
-    ) -> Reply
-        requires rest { AtRest plain self.now pass.old }
-        requires vector { IsVector self.now.about vector.now }
-        ensures rest { AtRest plain self.now pass.new }
-        ensures answered { IsAnswered plain self.now
-            (last_vector pass.old) vector.now result pass.old pass.new }
-        ensures ticks { AreTicked (puts_after self.now.about (last_vector pass.old) vector.now) result
-            (L.count steps.old) (L.count steps.new) }
-    {
-        insert_from_last(&PlainTable::over(self.nodes()), self, pass, vector, steps)
-    }
 }

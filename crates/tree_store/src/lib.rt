@@ -7,6 +7,7 @@ mod create;
 mod fits;
 mod insert;
 mod passes;
+mod plain;
 mod read;
 mod store;
 mod tree;
@@ -14,8 +15,9 @@ mod unfold;
 
 pub use create::CreateError;
 pub use insert::insert_from_last;
+pub use plain::{PlainPass, PlainStore};
 pub use read::read_vector;
-pub use store::{PlainPass, PlainStore, TreeStore};
+pub use store::TreeStore;
 
 #[cfg(test)]
 mod tests;

@@ -2,14 +2,12 @@
 ghost use Rattle.std.specs.Prelude.{◌≡◌, ℕ, [], ◌∷◌, Bool, true, false, Some, length};
 ghost use Rattle.tdb_base.specs.History.{Vector, name_of};
 ghost use Rattle.pair_rule.specs.Rest.{AtRest, view};
-ghost use Rattle.root_plain.specs.Plain.{plain};
 ghost use Rattle.tree_store.specs.Reading.{IsRead, IsLookedUp};
 
-use crate::store::{PlainPass, TreeStore};
+use crate::store::TreeStore;
 use crate::unfold::unfold;
 use pair_nodes::{Nodes, RootTable};
 use pair_rule::Pass;
-use root_plain::{PlainRoot, PlainTable};
 
 // Reads the vector with this identifier, which the pass has seen named, through a store's root table.
 fn read_from<D: RootTable<W, F>, const W: u32, const F: u32>(
@@ -70,33 +68,21 @@ pub fn read_vector<D: RootTable<W, F>, const W: u32, const F: u32>(
     read_from(roots, nodes, pass, id, out);
 }
 
-impl<const W: u32, const F: u32> TreeStore<PlainRoot<W, F>, W, F> {
-    /// Puts the vector with this identifier into `out`, which has the store's slots. The pass has seen that
-    /// the identifier was given.
-    ///
-    /// It makes no call, puts no node and counts no step. It waits for nobody and takes no memory.
-    pub fn read(&self, pass: &mut PlainPass<W, F>, id: u64, out: &mut [u32])
-        requires rest { AtRest plain self.now pass.old }
-        requires named { (vector : Vector) × (name_of (view pass.old).seen vector ≡ Some id) }
-        requires out { length out.old ≡ self.now.about.slots }
-        ensures rest { AtRest plain self.now pass.new }
-        ensures read { IsRead plain id out.new pass.old pass.new }
-    {
-        read_vector(&PlainTable::over(self.nodes()), self, pass, id, out);
-    }
-
-    /// Puts the vector with this identifier into `out`, which has the store's slots, if it is some vector's.
-    ///
-    /// True is one call of the store's history, made at one atomic step, which found the vector in `out`.
-    /// False makes no call, leaves `out`, and says that no vector has the identifier in the history that the
-    /// pass has then seen. It waits for nobody and takes no memory.
-    pub fn lookup(&self, pass: &mut PlainPass<W, F>, id: u64, out: &mut [u32]) -> bool
-        requires rest { AtRest plain self.now pass.old }
-        requires out { length out.old ≡ self.now.about.slots }
-        ensures rest { AtRest plain self.now pass.new }
-        ensures found { IsLookedUp plain id result out.old out.new pass.old pass.new }
-    {
-        let nodes = &self.nodes;
-        find_in(&PlainTable::over(nodes), nodes, pass, id, out)
-    }
+/// Puts the vector with this identifier into `out`, if it is some vector's: `TreeStore::lookup` over any root
+/// table.
+pub fn find_vector<D: RootTable<W, F>, const W: u32, const F: u32>(
+    roots: &D,
+    store: &TreeStore<D::Part, W, F>,
+    pass: &mut Pass<D::Part, W, F>,
+    id: u64,
+    out: &mut [u32],
+) -> bool
+    requires roots { D.store roots.now ≡ store.now }
+    requires rest { AtRest D.Part.part store.now pass.old }
+    requires out { length out.old ≡ store.now.about.slots }
+    ensures rest { AtRest D.Part.part store.now pass.new }
+    ensures found { IsLookedUp D.Part.part id result out.old out.new pass.old pass.new }
+{
+    let nodes = &store.nodes;
+    find_in(roots, nodes, pass, id, out)
 }

@@ -3,8 +3,7 @@ ghost use Rattle.std.specs.Prelude.{◌≡◌};
 ghost use Rattle.pair_rule.specs.Part.{IsTable};
 
 use pair_nodes::Nodes;
-use pair_rule::{Pass, RootPart};
-use root_plain::PlainRoot;
+use pair_rule::RootPart;
 use std::marker::Model;
 use tree_shape::Shape;
 
@@ -43,12 +42,6 @@ impl<R: RootPart<W, F>, const W: u32, const F: u32> TreeStore<R, W, F> {
         self.shape.slots()
     }
 }
-
-/// A store whose roots stand in a plain table: an identifier is a bucket's number, below `2^roots`.
-pub type PlainStore<const W: u32, const F: u32> = TreeStore<PlainRoot<W, F>, W, F>;
-
-/// A caller's token of a plain store.
-pub type PlainPass<const W: u32, const F: u32> = Pass<PlainRoot<W, F>, W, F>;
 
 impl<R: RootPart<W, F>, const W: u32, const F: u32> Drop for TreeStore<R, W, F> {
     fn drop(self) {

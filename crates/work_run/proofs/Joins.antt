@@ -62,25 +62,25 @@ module _ {T : Type 0} (part : Part T) (store : Store) where
         h;
   }
 
-  -- a crew that is being dismissed: the passes of those who left were joined into one
-  pub record Dismissing (base now : PassOf T) (crew left : List (Worker T)) : Type 0 where
+  -- a all_workers that is being dismissed: the passes of those who left were joined into one
+  pub record Dismissing (base now : PassOf T) (all_workers left : List (Worker T)) : Type 0 where
     pub done : List (Worker T)
-    pub whole : crew ≡ left ++ done
+    pub whole : all_workers ≡ left ++ done
     pub stay : All (λ (w : Worker T). AtRest part store w.pass) left
     pub joined : AreJoined part store base now (map (λ (w : Worker T). w.pass) done)
 
-  pub dismissing_none : (p : PassOf T) (crew : List (Worker T)) → AtRest part store p → All (λ (w : Worker T). AtRest part store w.pass) crew → Dismissing p p crew crew
-  dismissing_none p crew rests all = record { done = []; whole = sym (append-nil crew); stay = all; joined = joined_none p rests }
+  pub dismissing_none : (p : PassOf T) (all_workers : List (Worker T)) → AtRest part store p → All (λ (w : Worker T). AtRest part store w.pass) all_workers → Dismissing p p all_workers all_workers
+  dismissing_none p all_workers rests all = record { done = []; whole = sym (append-nil all_workers); stay = all; joined = joined_none p rests }
 
   -- the last one leaves
-  pub dismissing_more : (base old new : PassOf T) (crew left rest : List (Worker T)) (worker : Worker T) → Dismissing base old crew left → left ≡ rest ++ worker ∷ []
+  pub dismissing_more : (base old new : PassOf T) (all_workers left rest : List (Worker T)) (worker : Worker T) → Dismissing base old all_workers left → left ≡ rest ++ worker ∷ []
       → AtRest part store new
       → view new ≡ joined_view part.join (view old) (view worker.pass)
       → HasTaken part (view old) (view new)
       → HasTaken part (view worker.pass) (view new)
       → new ≡ record old { seat = new.seat; nodes_count = new.nodes_count; names_count = new.names_count }
-      → Dismissing base new crew rest
-  dismissing_more base old new crew left rest worker d last rests is all theirs same = record {
+      → Dismissing base new all_workers rest
+  dismissing_more base old new all_workers left rest worker d last rests is all theirs same = record {
     stay = (All-pop (λ (w : Worker T). AtRest part store w.pass) left rest (Some worker) last d.stay).0;
     done = worker ∷ d.done;
     whole = d.whole ∙ (ap (λ (x : List (Worker T)). x ++ d.done) last ∙ append_assoc rest (worker ∷ []) d.done);

@@ -87,21 +87,21 @@ module _ {T : Type 0} where
         omega (arith, rest, here, sum_by-cons (λ (x : ℕ). x) (most from) (map most (range_with_len (from + 1) (length ws))))
 
 -- each worker that answered has a reply for each of its lines
-pub replies_each : {T : Type 0} (part : Part T) (store : Store) (rooms : ℕ → ℕ) (base now : PassOf T) (trace : List Vector) (workers block : ℕ) (crew after : List (Worker T))
-    → AreSplitWorkers part store rooms base now crew → length crew ≡ workers
-    → ((j : ℕ) (d : Worker T) → j < length crew → HasAnswered part store trace workers block (get_or crew j d) (get_or after j d)) → length after ≡ length crew
+pub replies_each : {T : Type 0} (part : Part T) (store : Store) (rooms : ℕ → ℕ) (base now : PassOf T) (trace : List Vector) (workers block : ℕ) (all_workers after : List (Worker T))
+    → AreSplitWorkers part store rooms base now all_workers → length all_workers ≡ workers
+    → ((j : ℕ) (d : Worker T) → j < length all_workers → HasAnswered part store trace workers block (get_or all_workers j d) (get_or after j d)) → length after ≡ length all_workers
     → (j : ℕ) (d : Worker T) → j < length after → length (get_or after j d).replies.items ≡ length (mine (length trace) (length after) block j)
-replies_each part store rooms base now trace workers block crew after split all_split answered all_after j d lt =
+replies_each part store rooms base now trace workers block all_workers after split all_split answered all_after j d lt =
     let a = answered j d (omega arith) in
     let number = (split.each j d (omega arith)).number_is in
     let places = mine (length trace) workers block j in
-    let same : length (picked trace (mine (length trace) workers block (get_or crew j d).number)) ≡ length (picked trace places) = ap (λ (n : ℕ). length (picked trace (mine (length trace) workers block n))) number in
+    let same : length (picked trace (mine (length trace) workers block (get_or all_workers j d).number)) ≡ length (picked trace places) = ap (λ (n : ℕ). length (picked trace (mine (length trace) workers block n))) number in
     let long : workers ≡ length after = omega (arith, all_after, all_split) in
     a.inserted.one_each ∙ (same ∙ (picked_length trace places (mine_below (length trace) workers block j) ∙ ap (λ (n : ℕ). length (mine (length trace) n block j)) long))
 
 module _ {T : Type 0} (part : Part T) (refusals : Refusals part) (store : Store) (rooms : ℕ → ℕ) (base now new : PassOf T) (trace : List Vector) (replies : List Reply) (workers block : ℕ)
-    (crew after : List (Worker T)) (split : AreSplitWorkers part store rooms base now crew) (all_split : length crew ≡ workers) (some : 1 ≤ workers) (any : 1 ≤ block)
-    (answered : (j : ℕ) (d : Worker T) → j < length crew → HasAnswered part store trace workers block (get_or crew j d) (get_or after j d)) (all_after : length after ≡ length crew)
+    (all_workers after : List (Worker T)) (split : AreSplitWorkers part store rooms base now all_workers) (all_split : length all_workers ≡ workers) (some : 1 ≤ workers) (any : 1 ≤ block)
+    (answered : (j : ℕ) (d : Worker T) → j < length all_workers → HasAnswered part store trace workers block (get_or all_workers j d) (get_or after j d)) (all_after : length after ≡ length all_workers)
     (one_each : length replies ≡ length trace)
     (are_placed : (j : ℕ) (d : Worker T) → j < length after → picked replies (mine (length trace) (length after) block j) ≡ (get_or after j d).replies.items)
     (joint : AreJoined part store now new (map (λ (w : Worker T). w.pass) after)) where
@@ -134,10 +134,10 @@ module _ {T : Type 0} (part : Part T) (refusals : Refusals part) (store : Store)
   mate : (j : ℕ) → j < workers → Mate j
   mate j lt =
       let p = placed after j (omega arith) in
-      let q = placed crew j (omega arith) in
+      let q = placed all_workers j (omega arith) in
       let h = split.each j q.one (omega arith) in
       let a = answered j p.one (omega arith) in
-      let start = get_or crew j p.one in
+      let start = get_or all_workers j p.one in
       let is_split = subst (λ (w : Worker T). IsSplitWorker part store (after_splits j v0) j (rooms j) w) (q.here q.one ∙ sym (q.here p.one)) h in
       let number : start.number ≡ j = is_split.number_is in
       let mine_replies : (get_or after j p.one).replies.items ≡ picked replies (lines_of j) =
@@ -240,7 +240,7 @@ module _ {T : Type 0} (part : Part T) (refusals : Refusals part) (store : Store)
   among_run = record {
     one_each = one_each;
     legal = subst (λ (x : About). IsLegal x.flags (view new).seen) joint.rest.seat.about_is joint.rest.seat.sound.legal;
-    extends = subst (λ (h : History). Extends h (view new).seen) (ap (λ (u : View T). u.seen) (split.view_is) ∙ (after_splits_stay (length crew) v0).seen) joint.base_taken.seen;
+    extends = subst (λ (h : History). Extends h (view new).seen) (ap (λ (u : View T). u.seen) (split.view_is) ∙ (after_splits_stay (length all_workers) v0).seen) joint.base_taken.seen;
     callers_count = length-map-range_with_len (given v0) 0 workers;
     callers_differ = λ j k c a b.
         (let x = at_numbered (given v0) workers j c a in

@@ -108,55 +108,55 @@ module _ {T : Type 0} (part : Part T) (store : Store) (rooms : ℕ → ℕ) wher
   pub split_none : (p : PassOf T) → AtRest part store p → AreSplitWorkers part store rooms p p []
   split_none p rests = record { rest = rests; pass_is = refl; view_is = refl; each = λ j d lt. absurd (omega arith) }
 
-  pub split_more : (base old new : PassOf T) (crew : List (Worker T)) (worker : Worker T) → AreSplitWorkers part store rooms base old crew → AtRest part store new
-      → view new ≡ parent_view (view old) → new ≡ record old { seat = new.seat } → IsSplitWorker part store (view old) (length crew) (rooms (length crew)) worker
-      → AreSplitWorkers part store rooms base new (crew ++ worker ∷ [])
-  split_more base old new crew worker h rests is same one = record {
+  pub split_more : (base old new : PassOf T) (all_workers : List (Worker T)) (worker : Worker T) → AreSplitWorkers part store rooms base old all_workers → AtRest part store new
+      → view new ≡ parent_view (view old) → new ≡ record old { seat = new.seat } → IsSplitWorker part store (view old) (length all_workers) (rooms (length all_workers)) worker
+      → AreSplitWorkers part store rooms base new (all_workers ++ worker ∷ [])
+  split_more base old new all_workers worker h rests is same one = record {
     rest = rests;
     pass_is = same ∙ (λ i. record (h.pass_is i) { seat = new.seat });
-    view_is = is ∙ (ap (λ (v : View T). parent_view v) h.view_is ∙ ap (λ (n : ℕ). after_splits n (view base)) (let long : suc (length crew) ≡ length (crew ++ worker ∷ []) = omega (arith, length-append crew (worker ∷ [])) in long));
-    each = each_push (λ j w. IsSplitWorker part store (after_splits j (view base)) j (rooms j) w) crew worker h.each
-        (subst (λ (v : View T). IsSplitWorker part store v (length crew) (rooms (length crew)) worker) h.view_is one);
+    view_is = is ∙ (ap (λ (v : View T). parent_view v) h.view_is ∙ ap (λ (n : ℕ). after_splits n (view base)) (let long : suc (length all_workers) ≡ length (all_workers ++ worker ∷ []) = omega (arith, length-append all_workers (worker ∷ [])) in long));
+    each = each_push (λ j w. IsSplitWorker part store (after_splits j (view base)) j (rooms j) w) all_workers worker h.each
+        (subst (λ (v : View T). IsSplitWorker part store v (length all_workers) (rooms (length all_workers)) worker) h.view_is one);
   }
 
   -- workers that did nothing, whose passes are joined back
-  pub unused : (base now new : PassOf T) (crew : List (Worker T)) → AreSplitWorkers part store rooms base now crew
-      → AreJoined part store now new (map (λ (w : Worker T). w.pass) crew) → Unused base new
-  unused base now new crew h j =
+  pub unused : (base now new : PassOf T) (all_workers : List (Worker T)) → AreSplitWorkers part store rooms base now all_workers
+      → AreJoined part store now new (map (λ (w : Worker T). w.pass) all_workers) → Unused base new
+  unused base now new all_workers h j =
       let v = view base in
-      let passes = map (λ (w : Worker T). w.pass) crew in
+      let passes = map (λ (w : Worker T). w.pass) all_workers in
       let ws = map (λ (p : PassOf T). view p) passes in
-      let final : view new ≡ after_joins part.join (after_splits (length crew) v) ws = j.view_is ∙ ap (λ (x : View T). after_joins part.join x ws) h.view_is in
-      let stay = after_splits_stay (length crew) v in
-      let n = after_joins_nothing part.join (after_splits (length crew) v) ws (λ u t. did u t) in
+      let final : view new ≡ after_joins part.join (after_splits (length all_workers) v) ws = j.view_is ∙ ap (λ (x : View T). after_joins part.join x ws) h.view_is in
+      let stay = after_splits_stay (length all_workers) v in
+      let n = after_joins_nothing part.join (after_splits (length all_workers) v) ws (λ u t. did u t) in
       let from = sym final in
       record {
         pass_is = j.pass_is ∙ (λ i. record (h.pass_is i) { seat = new.seat; nodes_count = new.nodes_count; names_count = new.names_count });
         number = ap (λ (x : View T). x.number) final ∙ (n.number ∙ stay.number);
         seen = ap (λ (x : View T). x.seen) final ∙ (n.seen ∙ stay.seen);
-        numbers = λ c t. subst (λ (x : View T). Has c x.numbers) from (numbers_first part.join (after_splits (length crew) v) ws c (subst (λ (x : List ℕ). Has c x) (sym stay.numbers) t));
+        numbers = λ c t. subst (λ (x : View T). Has c x.numbers) from (numbers_first part.join (after_splits (length all_workers) v) ws c (subst (λ (x : List ℕ). Has c x) (sym stay.numbers) t));
         known = (
           λ i x t. subst (λ (y : View T). Has (i, x) y.known) from (n.known.0 i x (subst (λ (y : List (ℕ × ℕ)). Has (i, x) y) (sym stay.known) t)),
           λ i x t. subst (λ (y : List (ℕ × ℕ)). Has (i, x) y) stay.known (n.known.1 i x (subst (λ (y : View T). Has (i, x) y.known) final t)),
         );
         made = ap (λ (x : View T). x.made) final ∙ (n.made ∙ stay.made);
         probes = ap (λ (x : View T). x.probes) final ∙ (n.probes ∙ stay.probes);
-        whole = λ whole. subst (λ (x : View T). Whole x) from (whole_again part.join v (length crew) ws whole (λ u t. none u t) (λ k lt. one k lt));
+        whole = λ whole. subst (λ (x : View T). Whole x) from (whole_again part.join v (length all_workers) ws whole (λ u t. none u t) (λ k lt. one k lt));
       }
     where
-      worker_of : (u : View T) → Has u (map (λ (p : PassOf T). view p) (map (λ (w : Worker T). w.pass) crew)) → (k : ℕ) × (k < length crew) × (u ≡ child_view part.split (after_splits k (view base)))
+      worker_of : (u : View T) → Has u (map (λ (p : PassOf T). view p) (map (λ (w : Worker T). w.pass) all_workers)) → (k : ℕ) × (k < length all_workers) × (u ≡ child_view part.split (after_splits k (view base)))
       worker_of u t =
-          let p = has_unmap (λ (p : PassOf T). view p) u (map (λ (w : Worker T). w.pass) crew) t in
-          let w = has_unmap (λ (w : Worker T). w.pass) p.0 crew p.1 in
-          let place = has_place w.0 crew w.1 in
+          let p = has_unmap (λ (p : PassOf T). view p) u (map (λ (w : Worker T). w.pass) all_workers) t in
+          let w = has_unmap (λ (w : Worker T). w.pass) p.0 all_workers p.1 in
+          let place = has_place w.0 all_workers w.1 in
           let is = (h.each place.0 w.0 place.1).view_is in
           (place.0, place.1, p.2 ∙ (ap (λ (q : PassOf T). view q) w.2 ∙ (ap (λ (y : Worker T). view y.pass) (sym place.2) ∙ is)))
 
-      did : (u : View T) → Has u (map (λ (p : PassOf T). view p) (map (λ (w : Worker T). w.pass) crew)) → DidNothing part.join (after_splits (length crew) (view base)) u
+      did : (u : View T) → Has u (map (λ (p : PassOf T). view p) (map (λ (w : Worker T). w.pass) all_workers)) → DidNothing part.join (after_splits (length all_workers) (view base)) u
       did u t =
           let w = worker_of u t in
           let a = after_splits_stay w.0 (view base) in
-          let b = after_splits_stay (length crew) (view base) in
+          let b = after_splits_stay (length all_workers) (view base) in
           record {
             seen = ap (λ (x : View T). x.seen) w.2 ∙ (a.seen ∙ sym b.seen);
             known = ap (λ (x : View T). x.known) w.2 ∙ (a.known ∙ sym b.known);
@@ -164,15 +164,15 @@ module _ {T : Type 0} (part : Part T) (store : Store) (rooms : ℕ → ℕ) wher
             probes = ap (λ (x : View T). x.probes) w.2;
           }
 
-      none : (u : View T) → Has u (map (λ (p : PassOf T). view p) (map (λ (w : Worker T). w.pass) crew)) → u.born ≡ []
+      none : (u : View T) → Has u (map (λ (p : PassOf T). view p) (map (λ (w : Worker T). w.pass) all_workers)) → u.born ≡ []
       none u t = ap (λ (x : View T). x.born) (worker_of u t).2
 
-      one : (k : ℕ) → k < length crew → (u : View T) × Has u (map (λ (p : PassOf T). view p) (map (λ (w : Worker T). w.pass) crew)) × Has (given (view base) k) u.numbers
+      one : (k : ℕ) → k < length all_workers → (u : View T) × Has u (map (λ (p : PassOf T). view p) (map (λ (w : Worker T). w.pass) all_workers)) × Has (given (view base) k) u.numbers
       one k lt =
-          let p = placed crew k lt in
+          let p = placed all_workers k lt in
           let is = (h.each k p.one lt).view_is in
           let same : view p.one.pass ≡ child_view part.split (after_splits k (view base)) = ap (λ (y : Worker T). view y.pass) (sym (p.here p.one)) ∙ is in (
             view p.one.pass,
-            has_map (λ (p : PassOf T). view p) p.one.pass (map (λ (w : Worker T). w.pass) crew) (has_map (λ (w : Worker T). w.pass) p.one crew p.there),
+            has_map (λ (p : PassOf T). view p) p.one.pass (map (λ (w : Worker T). w.pass) all_workers) (has_map (λ (w : Worker T). w.pass) p.one all_workers p.there),
             subst (λ (x : View T). Has (given (view base) k) x.numbers) (sym same) (inl refl),
           )

@@ -35,12 +35,12 @@ module _ {T : Type 0} where
 
     -- these workers have not begun, with passes that were split from one pass in turn, and room for so many
     -- replies each
-    pub record AreSplitWorkers (rooms : ℕ → ℕ) (base now : PassOf T) (crew : List (Worker T)) : Type 0 where
+    pub record AreSplitWorkers (rooms : ℕ → ℕ) (base now : PassOf T) (all_workers : List (Worker T)) : Type 0 where
       pub rest : AtRest part store now
       pub pass_is : now ≡ record base { seat = now.seat }
-      pub view_is : view now ≡ after_splits (length crew) (view base)
-      pub each : (j : ℕ) (d : Worker T) → j < length crew
-          → IsSplitWorker (after_splits j (view base)) j (rooms j) (slice_index_or crew j d)
+      pub view_is : view now ≡ after_splits (length all_workers) (view base)
+      pub each : (j : ℕ) (d : Worker T) → j < length all_workers
+          → IsSplitWorker (after_splits j (view base)) j (rooms j) (slice_index_or all_workers j d)
 
     -- other passes were joined into one
     pub record AreJoined (base now : PassOf T) (others : List (PassOf T)) : Type 0 where

@@ -44,10 +44,10 @@ pub fn run_lines<R: Threads + Sync, G: Gate, const W: u32, const F: u32>(
     ensures refused { OnErr result (Unused pass.old pass.new) }
 {
     let mut replies = Vec::with_capacity(alloc, trace.len() as usize)?;
-    let mut crew = split_workers(alloc, store, pass, trace.len(), workers, block)?;
-    work_at_once(rt, store, trace, workers, block, &mut crew, gate);
-    place(&crew, trace.len(), block, &mut replies);
-    join_workers(store, pass, crew);
+    let mut all_workers = split_workers(alloc, store, pass, trace.len(), workers, block)?;
+    work_at_once(rt, store, trace, workers, block, &mut all_workers, gate);
+    place(&all_workers, trace.len(), block, &mut replies);
+    join_workers(store, pass, all_workers);
     Ok(replies)
 }
 

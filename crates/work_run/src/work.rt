@@ -40,24 +40,24 @@ pub(crate) fn work_at_once<R: Threads + Sync, G: Gate, const W: u32, const F: u3
     trace: &Trace,
     workers: u64,
     block: u64,
-    crew: &mut Vec<Worker<Roots>>,
+    all_workers: &mut Vec<Worker<Roots>>,
     gate: &G,
 )
     requires lines { length trace.now ≤ 2 ^ 32 }
     requires fit { All (IsVector store.now.about) trace.now }
     requires workers { workers ≤ 64 }
     requires block { (1 ≤ block) × (block ≤ 65536) }
-    requires ready { All (IsReady plain store.now (length trace.now) workers block) crew.old.items }
-    ensures answered { (j : ℕ) (d : _) → j < length crew.old.items
-        → HasAnswered plain store.now trace.now workers block (slice_index_or crew.old.items j d)
-        (slice_index_or crew.new.items j d) }
-    ensures all { length crew.new.items ≡ length crew.old.items }
+    requires ready { All (IsReady plain store.now (length trace.now) workers block) all_workers.old.items }
+    ensures answered { (j : ℕ) (d : _) → j < length all_workers.old.items
+        → HasAnswered plain store.now trace.now workers block (slice_index_or all_workers.old.items j d)
+        (slice_index_or all_workers.new.items j d) }
+    ensures all { length all_workers.new.items ≡ length all_workers.old.items }
 {
-    let count = crew.len();
+    let count = all_workers.len();
     if count > 0 {
         thread::for_each_mut(
             rt,
-            crew.as_mut_slice(),
+            all_workers.as_mut_slice(),
             count,
             &|_, worker: &mut Worker<Roots>|
                 requires lines { length trace.now ≤ 2 ^ 32 }

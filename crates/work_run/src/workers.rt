@@ -47,37 +47,37 @@ pub(crate) fn split_workers<R: RootPart<W, F>, const W: u32, const F: u32>(
     requires block { (1 ≤ block) × (block ≤ 65536) }
     requires lines { lines ≤ 2 ^ 32 }
     ensures split { IfOk result
-        (λ crew. AreSplitWorkers R.part store.now
-        (λ j. length (mine lines workers block j)) pass.old pass.new crew.items) }
-    ensures all { IfOk result (λ crew. length crew.items ≡ workers) }
+        (λ all_workers. AreSplitWorkers R.part store.now
+        (λ j. length (mine lines workers block j)) pass.old pass.new all_workers.items) }
+    ensures all { IfOk result (λ all_workers. length all_workers.items ≡ workers) }
     ensures refused { OnErr result (Unused pass.old pass.new) }
     ensures refused_rest { OnErr result (AtRest R.part store.now pass.new) }
 {
-    let mut crew = Vec::with_capacity(alloc, workers as usize)?;
+    let mut all_workers = Vec::with_capacity(alloc, workers as usize)?;
     for number in 0..workers {
         let room = count_of(lines, workers, block, number);
         let Ok(worker) = split_worker(alloc, store, pass, number, room) else {
-            join_workers(store, pass, crew);
+            join_workers(store, pass, all_workers);
             return Err(NoMemory);
         };
-        let Ok(()) = crew.push(worker) else {
+        let Ok(()) = all_workers.push(worker) else {
             unreachable!()
         };
     }
-    Ok(crew)
+    Ok(all_workers)
 }
 
 /// The passes of the workers are joined into the pass, and their replies are dropped.
 pub(crate) fn join_workers<R: RootPart<W, F>, const W: u32, const F: u32>(
     store: &TreeStore<R, W, F>,
     pass: &mut Pass<R, W, F>,
-    crew: Vec<Worker<R::View>>,
+    all_workers: Vec<Worker<R::View>>,
 )
     requires rest { AtRest R.part store.now pass.old }
-    requires crew { All (λ w. AtRest R.part store.now w.pass) crew.items }
-    ensures { AreJoined R.part store.now pass.old pass.new (map (λ w. w.pass) crew.items) }
+    requires all_workers { All (λ w. AtRest R.part store.now w.pass) all_workers.items }
+    ensures { AreJoined R.part store.now pass.old pass.new (map (λ w. w.pass) all_workers.items) }
 {
-    let mut left = crew;
+    let mut left = all_workers;
     while let Some(worker) = left.pop() {
         store.join(pass, worker.into_pass());
     }

@@ -1,5 +1,5 @@
 use Rattle.std.proofs.Common.{◌-◌, ℕ, Bool, List, sym, subst, arith, suc}
-use Rattle.cleary_core.specs.Access.{Agrees}
+use Rattle.cleary_core.specs.Access.{HasReached}
 use Rattle.cleary_core.specs.Cells.{cell_at, word_count}
 use Rattle.cleary_core.specs.declared.cells.Cell.{Cell}
 use Rattle.cleary_core.specs.Map.{KeepsMap}
@@ -18,7 +18,7 @@ returns-then-end-sizes-clause-answer g c = λ keys k.
     let gap = c.args.gap.now in
     let there = c.requires.gap keys k in
     let e = c.run_end-end.ensures.end (g.A.WriteWords.words c.args.access.now)
-    (subst (λ (w : List ℕ). Agrees (g.A.ReadWords.reached c.run_end-end.new.access) w) same (g.met.A.WriteWords.stands c.run_end-end.new.access (word_count c.args.sizes.now) c.run_end-end.ensures.words).1) in
+    (subst (λ (w : List ℕ). HasReached (g.A.ReadWords.reached c.run_end-end.new.access) w) same (g.met.A.WriteWords.stands c.run_end-end.new.access (word_count c.args.sizes.now) c.run_end-end.ensures.words).1) in
     let bounds = c.run_end-end.ensures.bounds in (
       there.absent,
       keeps_up n old keys k c.args.home c.args.quotient c.requires.inside.0 there.absent gap.start gap.place c.run_end-end.result there.run.inside.0 there.run.row (omega (arith, bounds, c.max.ensures), bounds.1)
@@ -48,7 +48,7 @@ returns-then-gap-gt0-clause-answer g c = λ keys k.
     let gap = c.args.gap.now in
     let there = c.requires.gap keys k in
     let e = c.run_end-end.ensures.end (g.A.WriteWords.words c.args.access.now)
-    (subst (λ (w : List ℕ). Agrees (g.A.ReadWords.reached c.run_end-end.new.access) w) same (g.met.A.WriteWords.stands c.run_end-end.new.access (word_count c.args.sizes.now) c.run_end-end.ensures.words).1) in
+    (subst (λ (w : List ℕ). HasReached (g.A.ReadWords.reached c.run_end-end.new.access) w) same (g.met.A.WriteWords.stands c.run_end-end.new.access (word_count c.args.sizes.now) c.run_end-end.ensures.words).1) in
     let bounds = c.run_end-end.ensures.bounds in (
       there.absent,
       keeps_down n old keys k c.args.home c.args.quotient c.requires.inside.0 there.absent gap.start gap.place c.run_end-end.result there.run.inside.0 there.run.row (omega (arith, bounds, c.max.ensures), bounds.1)
@@ -65,7 +65,7 @@ returns-clause-answer g c = λ keys k.
     let gap = c.args.gap.now in
     let there = c.requires.gap keys k in
     let e = c.run_end-end.ensures.end (g.A.WriteWords.words c.args.access.now)
-    (subst (λ (w : List ℕ). Agrees (g.A.ReadWords.reached c.run_end-end.new.access) w) same (g.met.A.WriteWords.stands c.run_end-end.new.access (word_count c.args.sizes.now) c.run_end-end.ensures.words).1) in
+    (subst (λ (w : List ℕ). HasReached (g.A.ReadWords.reached c.run_end-end.new.access) w) same (g.met.A.WriteWords.stands c.run_end-end.new.access (word_count c.args.sizes.now) c.run_end-end.ensures.words).1) in
     let bounds = c.run_end-end.ensures.bounds in (
       there.absent,
       full n old keys k c.args.home c.args.quotient c.requires.inside.0 there.absent gap.start gap.place c.run_end-end.result there.run.inside.0 there.run.row (omega (arith, bounds, c.max.ensures), bounds.1)
@@ -84,7 +84,7 @@ returns-then-end-sizes-clause-others g c =
     let there = c.requires.gap keys k in
     let bounds = c.run_end-end.ensures.bounds in
     let e = c.run_end-end.ensures.end (g.A.WriteWords.words c.args.access.now)
-    (subst (λ (w : List ℕ). Agrees (g.A.ReadWords.reached c.run_end-end.new.access) w) same
+    (subst (λ (w : List ℕ). HasReached (g.A.ReadWords.reached c.run_end-end.new.access) w) same
     (g.met.A.WriteWords.stands c.run_end-end.new.access (word_count c.args.sizes.now) c.run_end-end.ensures.words).1) in
     let back = row_on n old keys k gap.start gap.place c.args.home c.max.result c.run_end-end.result there.run there.placed c.max.ensures e in
     let mid : ℕ → Cell = cell_at c.args.sizes.now (g.A.WriteWords.words c.shift_up.new.access) in
@@ -103,7 +103,7 @@ returns-then-gap-gt0-clause-others g c =
     let there = c.requires.gap keys k in
     let bounds = c.run_end-end.ensures.bounds in
     let e = c.run_end-end.ensures.end (g.A.WriteWords.words c.args.access.now)
-    (subst (λ (w : List ℕ). Agrees (g.A.ReadWords.reached c.run_end-end.new.access) w) same
+    (subst (λ (w : List ℕ). HasReached (g.A.ReadWords.reached c.run_end-end.new.access) w) same
     (g.met.A.WriteWords.stands c.run_end-end.new.access (word_count c.args.sizes.now) c.run_end-end.ensures.words).1) in
     let back = row_on n old keys k gap.start gap.place c.args.home c.max.result c.run_end-end.result there.run there.placed c.max.ensures e in
     let mid : ℕ → Cell = cell_at c.args.sizes.now (g.A.WriteWords.words c.shift_down.new.access) in
@@ -135,7 +135,7 @@ returns-then-end-sizes-clause-near g c =
     let there = c.requires.gap keys k in
     let bounds = c.run_end-end.ensures.bounds in
     let e = c.run_end-end.ensures.end (g.A.WriteWords.words c.args.access.now)
-    (subst (λ (w : List ℕ). Agrees (g.A.ReadWords.reached c.run_end-end.new.access) w) same
+    (subst (λ (w : List ℕ). HasReached (g.A.ReadWords.reached c.run_end-end.new.access) w) same
     (g.met.A.WriteWords.stands c.run_end-end.new.access (word_count c.args.sizes.now) c.run_end-end.ensures.words).1) in
     let back = row_on n old keys k gap.start gap.place c.args.home c.max.result c.run_end-end.result there.run there.placed c.max.ensures e in
     let low = there.run.inside.0 in
@@ -165,7 +165,7 @@ returns-then-gap-gt0-clause-near g c =
     let there = c.requires.gap keys k in
     let bounds = c.run_end-end.ensures.bounds in
     let e = c.run_end-end.ensures.end (g.A.WriteWords.words c.args.access.now)
-    (subst (λ (w : List ℕ). Agrees (g.A.ReadWords.reached c.run_end-end.new.access) w) same
+    (subst (λ (w : List ℕ). HasReached (g.A.ReadWords.reached c.run_end-end.new.access) w) same
     (g.met.A.WriteWords.stands c.run_end-end.new.access (word_count c.args.sizes.now) c.run_end-end.ensures.words).1) in
     let back = row_on n old keys k gap.start gap.place c.args.home c.max.result c.run_end-end.result there.run there.placed c.max.ensures e in
     let low = there.run.inside.0 in
@@ -195,7 +195,7 @@ returns-clause-near g c =
     let there = c.requires.gap keys k in
     let bounds = c.run_end-end.ensures.bounds in
     let e = c.run_end-end.ensures.end (g.A.WriteWords.words c.args.access.now)
-    (subst (λ (w : List ℕ). Agrees (g.A.ReadWords.reached c.run_end-end.new.access) w) same
+    (subst (λ (w : List ℕ). HasReached (g.A.ReadWords.reached c.run_end-end.new.access) w) same
     (g.met.A.WriteWords.stands c.run_end-end.new.access (word_count c.args.sizes.now) c.run_end-end.ensures.words).1) in
     let back = row_on n old keys k gap.start gap.place c.args.home c.max.result c.run_end-end.result there.run there.placed c.max.ensures e in
     let low = there.run.inside.0 in

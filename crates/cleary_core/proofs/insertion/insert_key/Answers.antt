@@ -1,6 +1,6 @@
 use Rattle.std.proofs.Common.{◌≡◌, ◌∙◌, ℕ, List, not, false, true, sym, ap, subst, suc, ◌≤◌, ◌<◌, ◌+◌, ◌-◌, max, ⊎_elim, arith}
 use Rattle.std.proofs.lemmas.Bool.{not-true, not-false, cases_lt}
-use Rattle.cleary_core.specs.Access.{Agrees}
+use Rattle.cleary_core.specs.Access.{HasReached}
 use Rattle.cleary_core.specs.Cells.{cell_at, word_count}
 use Rattle.cleary_core.specs.declared.cells.Cell.{Cell}
 use Rattle.cleary_core.specs.Map.{KeepsMap}
@@ -18,8 +18,8 @@ returns-then-not-here-clause-answer g c = λ keys k.
     let old : ℕ → Cell = cell_at c.args.sizes.now (g.A.WriteWords.words c.args.access.now) in
     let new : ℕ → Cell = cell_at c.args.sizes.now (g.A.WriteWords.words c.put_alone.new.access) in
     let same = (g.met.A.WriteWords.same c.args.access.now c.read_cell-here.new.access c.read_cell-here.ensures.reads).0 in
-    let agrees : Agrees (g.A.ReadWords.reached c.read_cell-here.new.access) old_words
-    = subst (λ (w : List ℕ). Agrees (g.A.ReadWords.reached c.read_cell-here.new.access) w) same (g.met.A.WriteWords.stands c.read_cell-here.new.access (word_count c.args.sizes.now) c.read_cell-here.ensures.words).1 in
+    let agrees : HasReached (g.A.ReadWords.reached c.read_cell-here.new.access) old_words
+    = subst (λ (w : List ℕ). HasReached (g.A.ReadWords.reached c.read_cell-here.new.access) w) same (g.met.A.WriteWords.stands c.read_cell-here.new.access (word_count c.args.sizes.now) c.read_cell-here.ensures.words).1 in
     let empty : (cell_at c.args.sizes.now (g.A.WriteWords.words c.args.access.now) c.args.home).occupied ≡ false
     = ap (λ (x : Cell). x.occupied) (c.read_cell-here.ensures.value old_words agrees) ∙ not-true c.read_cell-here.result.occupied c.if-not-here.true in
     let absent = none_at n old keys k c.args.home c.args.quotient c.requires.inside empty in (
@@ -95,8 +95,8 @@ returns-then-group_has-clause-others g c =
     (g.met.A.ReadWords.joins c.run_front-front.new.access c.group_place-place.new.access c.group_has.new.access c.group_place-place.ensures.reads c.group_has.ensures.reads)))).0 in
     let here = (g.met.A.WriteWords.same c.args.access.now c.read_cell-here.new.access c.read_cell-here.ensures.reads).0 in
     let old_words : List ℕ = g.A.WriteWords.words c.args.access.now in
-    let agrees : Agrees (g.A.ReadWords.reached c.read_cell-here.new.access) old_words
-    = subst (λ (w : List ℕ). Agrees (g.A.ReadWords.reached c.read_cell-here.new.access) w) here
+    let agrees : HasReached (g.A.ReadWords.reached c.read_cell-here.new.access) old_words
+    = subst (λ (w : List ℕ). HasReached (g.A.ReadWords.reached c.read_cell-here.new.access) w) here
     (g.met.A.WriteWords.stands c.read_cell-here.new.access (word_count c.args.sizes.now) c.read_cell-here.ensures.words).1 in
     let taken : (cell_at c.args.sizes.now (g.A.WriteWords.words c.args.access.now) c.args.home).occupied ≡ true
     = ap (λ (x : Cell). x.occupied) (c.read_cell-here.ensures.value old_words agrees) ∙ not-false c.read_cell-here.result.occupied c.if-not-here.false in

@@ -1,5 +1,5 @@
 use Rattle.std.proofs.Common.{◌≡◌, ◌≤◌, ◌-◌, ℕ, List}
-use Rattle.cleary_core.specs.Access.{Agrees, Reaches}
+use Rattle.cleary_core.specs.Access.{HasReached, Reaches}
 use Rattle.cleary_core.specs.Cells.{cell_at, word_count}
 use Rattle.cleary_core.specs.Map.{Slots}
 use Rattle.cleary_core.specs.Search.{virgins, InRun}
@@ -12,7 +12,7 @@ invariant-loop g l = record {
   high : l.at ≤ l.sizes.cells;
   reads : g.A.ReadWords.reads l.initial.access l.access;
   count : g.A.ReadWords.spans l.access (word_count l.sizes);
-  passed : (words : List ℕ) (slots : Slots) (home : ℕ) → Agrees (g.A.ReadWords.reached l.access) words → InRun l.sizes.cells (cell_at l.sizes words) slots l.start home
+  passed : (words : List ℕ) (slots : Slots) (home : ℕ) → HasReached (g.A.ReadWords.reached l.access) words → InRun l.sizes.cells (cell_at l.sizes words) slots l.start home
       → l.groups ≡ virgins (cell_at l.sizes words) l.start (home - l.start) → Passed l.sizes.cells (cell_at l.sizes words) slots l.start l.at home (l.groups - l.counter);
   near : Reaches (g.A.ReadWords.reached l.initial.access) (g.A.ReadWords.reached l.access) l.sizes l.start l.at;
 }

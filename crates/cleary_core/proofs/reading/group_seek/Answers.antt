@@ -1,6 +1,6 @@
 use Rattle.std.proofs.Common.{◌<◌, ◌≤◌, ◌∙◌, ℕ, sym, ap, ⊎_elim, arith, suc, ◌+◌}
 use Rattle.std.proofs.lemmas.Bool.{cases_lt}
-use Rattle.cleary_core.specs.Access.{Agrees}
+use Rattle.cleary_core.specs.Access.{HasReached}
 use Rattle.cleary_core.specs.Cells.{cell_at}
 use Rattle.cleary_core.specs.declared.cells.Cell.{Cell}
 use Rattle.cleary_core.proofs.Reaching.{earlier, onward, widen}
@@ -10,7 +10,7 @@ pub returns-then-here-clause-sought : goal.returns-then-here-clause-sought
 returns-then-here-clause-sought g c = λ words agrees has.
     let at : ℕ = c.loop-at.at in
     let before = c.loop-at.invariant in
-    let old : Agrees (g.A.ReadWords.reached c.loop-at.access) words = λ j m h. agrees j m ((g.met.A.ReadWords.keeps c.loop-at.access c.read_cell-here.new.access c.read_cell-here.ensures.reads).1 j m h) in (
+    let old : HasReached (g.A.ReadWords.reached c.loop-at.access) words = λ j m h. agrees j m ((g.met.A.ReadWords.keeps c.loop-at.access c.read_cell-here.new.access c.read_cell-here.ensures.reads).1 j m h) in (
       at,
       before.low,
       c.loop-at-test.true,

@@ -1,5 +1,5 @@
 use Rattle.std.proofs.Common.{◌≢◌, ◌<◌, ◌≤◌, ◌-◌, ℕ, List}
-use Rattle.cleary_core.specs.Access.{Agrees, Reaches}
+use Rattle.cleary_core.specs.Access.{HasReached, Reaches}
 use Rattle.cleary_core.specs.Cells.{cell_at, word_count}
 use Rattle.cleary_core.specs.Search.{Unbroken}
 use Rattle.cleary_core.proofs.reading.group_seek.Given as goal
@@ -9,8 +9,8 @@ invariant-loop-at g l = record {
   low : l.from ≤ l.at;
   reads : g.A.ReadWords.reads l.initial.access l.access;
   count : g.A.ReadWords.spans l.access (word_count l.sizes);
-  row : (words : List ℕ) → Agrees (g.A.ReadWords.reached l.access) words → Unbroken (cell_at l.sizes words) l.from l.at;
-  none : (words : List ℕ) → Agrees (g.A.ReadWords.reached l.access) words → (j : ℕ) → l.from ≤ j → j < l.at → (cell_at l.sizes words j).quotient ≢ l.quotient;
+  row : (words : List ℕ) → HasReached (g.A.ReadWords.reached l.access) words → Unbroken (cell_at l.sizes words) l.from l.at;
+  none : (words : List ℕ) → HasReached (g.A.ReadWords.reached l.access) words → (j : ℕ) → l.from ≤ j → j < l.at → (cell_at l.sizes words j).quotient ≢ l.quotient;
   high : l.at ≤ l.sizes.cells;
   near : Reaches (g.A.ReadWords.reached l.initial.access) (g.A.ReadWords.reached l.access) l.sizes l.from l.at;
 }

@@ -1,6 +1,6 @@
 use Rattle.std.proofs.Common.{◌≡◌, ◌∙◌, ℕ, true, ap, arith, suc, ◌+◌, ◌-◌, ◌<◌, ◌≤◌, max, ⊎_elim}
 use Rattle.std.proofs.lemmas.Bool.{not-false, cases_lt}
-use Rattle.cleary_core.specs.Access.{Agrees}
+use Rattle.cleary_core.specs.Access.{HasReached}
 use Rattle.cleary_core.specs.Cells.{cell_at}
 use Rattle.cleary_core.specs.declared.cells.Cell.{Cell}
 use Rattle.cleary_core.proofs.Fronting.{in_run, home_occupied}
@@ -16,11 +16,11 @@ returns-clause-found g c = λ words keys agrees k.
     let front = c.run_front-front in
     let place = c.group_place-place in
     let seek = c.group_seek in
-    let placed_agrees : Agrees (g.A.ReadWords.reached place.new.access) words
+    let placed_agrees : HasReached (g.A.ReadWords.reached place.new.access) words
     = earlier (g.A.ReadWords.reached place.new.access) (g.A.ReadWords.reached seek.new.access) words (g.met.A.ReadWords.keeps place.new.access seek.new.access seek.ensures.reads).1 agrees in
-    let front_agrees : Agrees (g.A.ReadWords.reached front.new.access) words
+    let front_agrees : HasReached (g.A.ReadWords.reached front.new.access) words
     = earlier (g.A.ReadWords.reached front.new.access) (g.A.ReadWords.reached place.new.access) words (g.met.A.ReadWords.keeps front.new.access place.new.access place.ensures.reads).1 placed_agrees in
-    let here_agrees : Agrees (g.A.ReadWords.reached c.read_cell-here.new.access) words
+    let here_agrees : HasReached (g.A.ReadWords.reached c.read_cell-here.new.access) words
     = earlier (g.A.ReadWords.reached c.read_cell-here.new.access) (g.A.ReadWords.reached front.new.access) words (g.met.A.ReadWords.keeps c.read_cell-here.new.access front.new.access front.ensures.reads).1 front_agrees in
     let virgin : (cell_at c.args.sizes.now words c.args.home).virgin ≡ true
     = ap (λ (x : Cell). x.virgin) (c.read_cell-here.ensures.value words here_agrees) ∙ not-false c.read_cell-here.result.virgin c.if-not-here.false in
@@ -47,11 +47,11 @@ returns-clause-near g c = λ words keys agrees k.
     let front = c.run_front-front in
     let place = c.group_place-place in
     let seek = c.group_seek in
-    let placed_agrees : Agrees (g.A.ReadWords.reached place.new.access) words
+    let placed_agrees : HasReached (g.A.ReadWords.reached place.new.access) words
     = earlier (g.A.ReadWords.reached place.new.access) (g.A.ReadWords.reached seek.new.access) words (g.met.A.ReadWords.keeps place.new.access seek.new.access seek.ensures.reads).1 agrees in
-    let front_agrees : Agrees (g.A.ReadWords.reached front.new.access) words
+    let front_agrees : HasReached (g.A.ReadWords.reached front.new.access) words
     = earlier (g.A.ReadWords.reached front.new.access) (g.A.ReadWords.reached place.new.access) words (g.met.A.ReadWords.keeps front.new.access place.new.access place.ensures.reads).1 placed_agrees in
-    let here_agrees : Agrees (g.A.ReadWords.reached c.read_cell-here.new.access) words
+    let here_agrees : HasReached (g.A.ReadWords.reached c.read_cell-here.new.access) words
     = earlier (g.A.ReadWords.reached c.read_cell-here.new.access) (g.A.ReadWords.reached front.new.access) words (g.met.A.ReadWords.keeps c.read_cell-here.new.access front.new.access front.ensures.reads).1 front_agrees in
     let virgin : (cell_at c.args.sizes.now words c.args.home).virgin ≡ true
     = ap (λ (x : Cell). x.virgin) (c.read_cell-here.ensures.value words here_agrees) ∙ not-false c.read_cell-here.result.virgin c.if-not-here.false in

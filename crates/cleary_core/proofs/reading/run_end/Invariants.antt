@@ -1,5 +1,5 @@
 use Rattle.std.proofs.Common.{◌≤◌, ◌-◌, ℕ, List}
-use Rattle.cleary_core.specs.Access.{Agrees, Reaches}
+use Rattle.cleary_core.specs.Access.{HasReached, Reaches}
 use Rattle.cleary_core.specs.Cells.{cell_at, word_count}
 use Rattle.cleary_core.specs.Search.{Row}
 use Rattle.cleary_core.proofs.reading.run_end.Given as goal
@@ -10,7 +10,7 @@ invariant-loop-end g l = record {
   high : l.end ≤ l.sizes.cells;
   reads : g.A.ReadWords.reads l.initial.access l.access;
   count : g.A.ReadWords.spans l.access (word_count l.sizes);
-  row : (words : List ℕ) → Agrees (g.A.ReadWords.reached l.access) words → Row (cell_at l.sizes words) l.from l.end;
+  row : (words : List ℕ) → HasReached (g.A.ReadWords.reached l.access) words → Row (cell_at l.sizes words) l.from l.end;
   near : Reaches (g.A.ReadWords.reached l.initial.access) (g.A.ReadWords.reached l.access) l.sizes l.from l.end;
 }
 

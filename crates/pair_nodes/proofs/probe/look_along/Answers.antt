@@ -41,8 +41,8 @@ settle-requires g c =
       ),
     )
 
-pub returns-in-Some-clause-told : goal.returns-in-Some-clause-told
-returns-in-Some-clause-told g c =
+pub returns-in-Some-clause-ends : goal.returns-in-Some-clause-ends
+returns-in-Some-clause-ends g c =
     let about = c.args.table.now.about in
     let pair = pair_of_word c.args.word in
     let i = c.loop-i.invariant in
@@ -51,7 +51,7 @@ returns-in-Some-clause-told g c =
     let v = c.loop-i.pass.seat.me.0 in
     let w = c.look-found.new.pass.seat.me.0 in
     let z = c.settle.new.pass.seat.me.0 in
-    ended_then pair c.in-Some.index 0 0 u v z i.so_far.probed (ended_then pair c.in-Some.index 0 0 v w z (probed_learned about c.bucket-at.result c.look-found.result v w e.word e.view) c.in-Some.ensures.told)
+    ended_then pair c.in-Some.index 0 0 u v z i.so_far.probed (ended_then pair c.in-Some.index 0 0 v w z (probed_learned about c.bucket-at.result c.look-found.result v w e.word e.view) c.in-Some.ensures.ends)
 
 pub loop-i-preserved : goal.loop-i-preserved
 loop-i-preserved g c =
@@ -68,7 +68,7 @@ loop-i-preserved g c =
     let step = 8 * c.args.walk.now.passed + c.loop-i.i in
     let lies = line_bucket about g.row.W c.args.word step c.bucket-at.result c.args.walk.now.course c.requires.width r.walk.0 c.bucket-at.ensures.bucket in
     let passed = load_passed about v w c.bucket-at.result c.look-found.result pair step e.view e.word i.so_far.passed in
-    let on : Underway pair (step + 1) 0 v z = underway_then pair (step + 1) 0 0 v w z (probed_learned about c.bucket-at.result c.look-found.result v w e.word e.view) (f.told step lies passed) in
+    let on : Underway pair (step + 1) 0 v z = underway_then pair (step + 1) 0 0 v w z (probed_learned about c.bucket-at.result c.look-found.result v w e.word e.view) (f.ends step lies passed) in
     let next : step + 1 ≡ 8 * c.args.walk.now.passed + (c.loop-i.i + 1) = omega arith in
     record {
       rest = f.rest;

@@ -34,8 +34,8 @@ settle-requires g c =
       ),
     )
 
-pub returns-clause-told : goal.returns-clause-told
-returns-clause-told g c =
+pub returns-clause-ends : goal.returns-clause-ends
+returns-clause-ends g c =
     let about = c.args.table.now.about in
     let pair = pair_of_word c.args.word in
     let r = c.requires in
@@ -51,4 +51,4 @@ returns-clause-told g c =
     let one : (8 * c.args.walk.now.passed + 0) + 1 ≡ 1 = omega (arith, zero) in
     underway_then pair 1 1 0 v w z probed (subst (λ (n : ℕ). Underway pair n 0 w z) one on))
     (λ index told. ended_then pair index 1 0 v w z probed told)
-    c.settle.ensures.told
+    c.settle.ensures.ends

@@ -6,9 +6,9 @@ use Rattle.pair_nodes.proofs.Views.{underway_then, ended_then, keeps_trans}
 use Rattle.pair_nodes.proofs.Lines.{reach_walked}
 use Rattle.pair_nodes.proofs.probe.probe.Goals as goal
 
-pub returns-in-Some-look_along-clause-told : goal.returns-in-Some-look_along-clause-told
-returns-in-Some-look_along-clause-told g c =
-    ended_then (pair_of_word c.args.word) c.in-Some-look_along.index 1 0 (view c.args.pass.now) c.loop-line.pass.seat.me.0 c.look_along.new.pass.seat.me.0 c.loop-line.invariant.so_far.probed c.in-Some-look_along.ensures.told
+pub returns-in-Some-look_along-clause-ends : goal.returns-in-Some-look_along-clause-ends
+returns-in-Some-look_along-clause-ends g c =
+    ended_then (pair_of_word c.args.word) c.in-Some-look_along.index 1 0 (view c.args.pass.now) c.loop-line.pass.seat.me.0 c.look_along.new.pass.seat.me.0 c.loop-line.invariant.so_far.probed c.in-Some-look_along.ensures.ends
 
 pub loop-line-preserved : goal.loop-line-preserved
 loop-line-preserved g c =
@@ -25,11 +25,11 @@ loop-line-preserved g c =
       tree = keeps_trans c.args.pass.now c.loop-line.pass c.look_along.new.pass i.tree e.tree;
       course = ap (λ (w : Progress). w.course) c.advance.ensures ∙ i.course;
       passed = omega (arith, line);
-      so_far = subst (λ (n : ℕ). Underway pair n 1 u z) next (underway_then pair (8 * c.advance.new.self.passed + 8) 1 0 u v z i.so_far.probed e.told);
+      so_far = subst (λ (n : ℕ). Underway pair n 1 u z) next (underway_then pair (8 * c.advance.new.self.passed + 8) 1 0 u v z i.so_far.probed e.ends);
     }
 
-pub returns-clause-told : goal.returns-clause-told
-returns-clause-told g c =
+pub returns-clause-ends : goal.returns-clause-ends
+returns-clause-ends g c =
     let i = c.loop-line.invariant in
     let lines : c.args.path.now.lines ≡ walked_lines c.args.table.now.about.sizes.nodes c.args.table.now.about.sizes.probe = ap (λ (course : Course). course.lines) c.requires.path in
     let steps = c.len-line-end.ensures.steps in

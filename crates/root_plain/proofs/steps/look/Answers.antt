@@ -28,8 +28,8 @@ returns-clause-shows g c =
     let about = c.args.table.now.about in
     let here = word_of_bucket about c.sizes-sizes.result.now c.args.at c.root_word-place.result c.sizes-sizes.ensures.sizes c.root_word-place.ensures in
     subst (λ (k : ℕ). Shows (wants c.args.wanted.now) k c.load_asked.result (view c.args.pass.now) c.load_asked.new.seat.me.0)
-    (bucket_of_word (view c.args.pass.now) about c.args.at c.root_word-place.result c.requires.rest.seat.about_is here) c.load_asked.ensures.told.1
+    (bucket_of_word (view c.args.pass.now) about c.args.at c.root_word-place.result c.requires.rest.seat.about_is here) c.load_asked.ensures.sought.1
 
 pub returns-clause-rest : goal.returns-clause-rest
 returns-clause-rest g c =
-    looked_rests c.args.table.now c.args.pass.now _ (wants c.args.wanted.now) _ c.load_asked.result c.requires.rest c.load_asked.ensures.seat c.load_asked.ensures.told.0 c.load_asked.ensures.told.1 refl refl refl refl refl refl
+    looked_rests c.args.table.now c.args.pass.now _ (wants c.args.wanted.now) _ c.load_asked.result c.requires.rest c.load_asked.ensures.seat c.load_asked.ensures.sought.0 c.load_asked.ensures.sought.1 refl refl refl refl refl refl

@@ -7,8 +7,8 @@ use Rattle.tree_store.proofs.Inserts.{of_naming, becomes_last}
 use Rattle.tree_store.proofs.Roots.{root_read, rests_kept, stands_from_grown, root_stands_more}
 use Rattle.tree_store.proofs.insert.put_tree_root.Goals as goal
 
-pub put-requires : goal.put-requires
-put-requires g c =
+pub look_or_put-requires : goal.look_or_put-requires
+look_or_put-requires g c =
     let store = g.D.RootTable.store c.args.roots.now in
     let about = store.about in
     let r = c.requires in
@@ -25,7 +25,7 @@ returns-in-Ok-clause-rest g c =
     let range = r.rest.seat.is_about.range in
     let v = view c.args.pass.now in
     let tree = c.args.pass.now.next_tree.items in
-    let u = c.put.new.pass in
+    let u = c.look_or_put.new.pass in
     let e = c.in-Ok.ensures.put in
     let f = root_read about v tree c.index.result.now c.index-2.result.now range.indexes_fit range.least_slots r.rest.seat.about_is r.rest.seat.sound.nodes r.rest.next_length r.vector r.stands c.index.ensures c.index-2.ensures in
     let caught = e.entry (slots_of about tree) f.stands r.vector.slots in
@@ -44,7 +44,7 @@ returns-in-Ok-clause-answered g c =
     let p = c.args.pass.now in
     let v = view p in
     let tree = p.next_tree.items in
-    let u = c.put.new.pass in
+    let u = c.look_or_put.new.pass in
     let e = c.in-Ok.ensures.put in
     let f = root_read about v tree c.index.result.now c.index-2.result.now range.indexes_fit range.least_slots r.rest.seat.about_is r.rest.seat.sound.nodes r.rest.next_length r.vector r.stands c.index.ensures c.index-2.ensures in
     let caught = e.entry (slots_of about tree) f.stands r.vector.slots in
@@ -68,7 +68,7 @@ returns-in-Err-clause-answered g c =
     let range = r.rest.seat.is_about.range in
     let v = view c.args.pass.now in
     let tree = c.args.pass.now.next_tree.items in
-    let u = view c.put.new.pass in
+    let u = view c.look_or_put.new.pass in
     let e = c.in-Err.ensures.refused in
     let f = root_read about v tree c.index.result.now c.index-2.result.now range.indexes_fit range.least_slots r.rest.seat.about_is r.rest.seat.sound.nodes r.rest.next_length r.vector r.stands c.index.ensures c.index-2.ensures in
     record {

@@ -1,15 +1,16 @@
 use Rattle.std.proofs.Common.{◌≡◌, ⊎_elim, ap, ◌∙◌}
 use Rattle.std.specs.Prelude.{◌⊎◌, Err}
-use Rattle.tree_store.specs.Ranges.{NodesFit, RootsFit, ProbeFits, IsFirstOut}
+use Rattle.root_plain.specs.Plain.{RootsFit, plain}
+use Rattle.tree_store.specs.Ranges.{NodesFit, ProbeFits, IsFirstOut}
 use Rattle.pair_rule.specs.declared.sizes.Sizes.{Sizes}
 use Rattle.treedb.proofs.plain.make_store.Goals as goal
 
 -- sizes that all fit have no first one out of its range
-none_out : (width n : _) (sizes : Sizes) → NodesFit width sizes → RootsFit sizes → ProbeFits sizes → IsFirstOut width sizes n → ⊥
+none_out : (width n : _) (sizes : Sizes) → NodesFit width sizes → RootsFit sizes → ProbeFits sizes → IsFirstOut plain width sizes n → ⊥
 none_out width n sizes nodes roots probe out = ⊎_elim
     (λ (a : (n ≡ 1) × (NodesFit width sizes → ⊥)). a.1 nodes)
-    (λ (b : ((n ≡ 2) × NodesFit width sizes × (RootsFit sizes → ⊥)) ⊎ ((n ≡ 4) × NodesFit width sizes × RootsFit sizes × (ProbeFits sizes → ⊥))).
-    ⊎_elim (λ (a : (n ≡ 2) × NodesFit width sizes × (RootsFit sizes → ⊥)). a.2 roots) (λ (a : (n ≡ 4) × NodesFit width sizes × RootsFit sizes × (ProbeFits sizes → ⊥)). a.3 probe) b)
+    (λ (b : (NodesFit width sizes × ((n ≡ 2) × (RootsFit sizes → ⊥))) ⊎ ((n ≡ 4) × NodesFit width sizes × RootsFit sizes × (ProbeFits sizes → ⊥))).
+    ⊎_elim (λ (a : NodesFit width sizes × ((n ≡ 2) × (RootsFit sizes → ⊥))). a.1.1 roots) (λ (a : (n ≡ 4) × NodesFit width sizes × RootsFit sizes × (ProbeFits sizes → ⊥)). a.3 probe) b)
     out
 
 pub unreachable-requires-in-Err-Sizes : goal.unreachable-requires-in-Err-Sizes

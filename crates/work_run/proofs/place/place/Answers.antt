@@ -12,12 +12,12 @@ use Rattle.work_run.proofs.place.place.Goals as goal
 pub loop-i-preserved : goal.loop-i-preserved
 loop-i-preserved g c =
     let inv = c.loop-i.invariant in
-    let crew = c.args.crew.now in
-    let w = length crew in
+    let all_workers = c.args.all_workers.now in
+    let w = length all_workers in
     let i = c.loop-i.i in
     let old = c.loop-i.replies.items in
     let turn = c.turn_of-turn.result in
-    let worker = c.index-crew-turn.result in
+    let worker = c.index-all_workers-turn.result in
     let reply = c.index.result.now in
     let pushed : c.push.new.self.items ≡ old ++ reply ∷ [] = c.in-Ok.ensures.items in
     let mine_turn = c.turn_of-turn.ensures.line c.args.lines c.loop-i-test.true in
@@ -30,17 +30,17 @@ loop-i-preserved g c =
           let here : slice_get (mine c.args.lines w c.args.block j) n ≡ Some i = at ∙ ap Some is in
           let both = same-turn c.args.lines w c.args.block j turn.worker n turn.number i here mine_turn in
           let few = slice_get_within (mine c.args.lines w c.args.block j) n i here in
-          let one : get_or crew j d ≡ worker = get_or_default crew j d worker jlt ∙ (ap (λ (x : ℕ). get_or crew x worker) both.0 ∙ sym c.index-crew-turn.is) in
-          let long : n < length (get_or crew j d).replies.items = omega (arith, few, c.requires.answered j d jlt) in
-          let read : slice_get (get_or crew j d).replies.items n ≡ Some (get_or (get_or crew j d).replies.items n reply) = slice_get-get_or (get_or crew j d).replies.items n reply long in
-          let same : get_or (get_or crew j d).replies.items n reply ≡ reply = (λ t. get_or (one t).replies.items (both.1 t) reply) ∙ sym c.index.ensures in
+          let one : get_or all_workers j d ≡ worker = get_or_default all_workers j d worker jlt ∙ (ap (λ (x : ℕ). get_or all_workers x worker) both.0 ∙ sym c.index-all_workers-turn.is) in
+          let long : n < length (get_or all_workers j d).replies.items = omega (arith, few, c.requires.answered j d jlt) in
+          let read : slice_get (get_or all_workers j d).replies.items n ≡ Some (get_or (get_or all_workers j d).replies.items n reply) = slice_get-get_or (get_or all_workers j d).replies.items n reply long in
+          let same : get_or (get_or all_workers j d).replies.items n reply ≡ reply = (λ t. get_or (one t).replies.items (both.1 t) reply) ∙ sym c.index.ensures in
           (ap (λ (x : ℕ). slice_get (old ++ reply ∷ []) x) (is ∙ sym inv.count) ∙ at_end old reply) ∙ sym (read ∙ ap Some same))
           (before-or-last k i lt);
     }
 
 pub returns-clause-placed : goal.returns-clause-placed
 returns-clause-placed g c = λ j d lt. (let inv = c.loop-i.invariant in
-    let w = length c.args.crew.now in
+    let w = length c.args.all_workers.now in
     let places = mine c.args.lines w c.args.block j in
-    picked_are c.loop-i.replies.items places (get_or c.args.crew.now j d).replies.items (c.requires.answered j d lt)
+    picked_are c.loop-i.replies.items places (get_or c.args.all_workers.now j d).replies.items (c.requires.answered j d lt)
     (λ n k at. inv.placed k j n d (let within = mine-inside c.args.lines w c.args.block j n k at in omega (arith, within, c.loop-i-test.false)) lt at))

@@ -7,5 +7,5 @@ abbrev pub invariant-loop-i : goal.invariant-loop-i
 invariant-loop-i g l = record {
   count : length l.replies.items ≡ l.i;
   room : l.lines ≤ vec_capacity l.replies;
-  placed : (k j n : ℕ) (d : Worker g.row.T.Denot) → k < l.i → j < length l.crew → slice_get (mine l.lines (length l.crew) l.block j) n ≡ Some k → slice_get l.replies.items k ≡ slice_get (slice_index_or l.crew j d).replies.items n;
+  placed : (k j n : ℕ) (d : Worker g.row.T.Denot) → k < l.i → j < length l.all_workers → slice_get (mine l.lines (length l.all_workers) l.block j) n ≡ Some k → slice_get l.replies.items k ≡ slice_get (slice_index_or l.all_workers j d).replies.items n;
 }

@@ -3,7 +3,7 @@ use Rattle.cleary_core.specs.Answers.{Decides}
 use Rattle.cleary_core.specs.Cells.{cell_at, word_count}
 use Rattle.cleary_core.specs.declared.cells.Sizes.{Sizes}
 use Rattle.cleary_core.proofs.Placing.{found_here}
-use Rattle.cleary_core.specs.Access.{Agrees}
+use Rattle.cleary_core.specs.Access.{HasReached}
 use Rattle.cleary_core.specs.Map.{Key, KeepsMap}
 use Rattle.cleary_core.specs.Search.{ReachesRun}
 use Rattle.cleary_core.proofs.region.Region.find_in.Goals as goal
@@ -22,13 +22,13 @@ returns-in-None-clause-decided g c =
 pub returns-in-Some-clause-near : goal.returns-in-Some-clause-near
 returns-in-Some-clause-near g c =
     subst
-    (λ (z : Sizes). (words : List ℕ) (keys : List Key) → length words ≡ word_count z → Agrees (g.A.ReadWords.reached c.locate.new.access) words → KeepsMap z words keys
+    (λ (z : Sizes). (words : List ℕ) (keys : List Key) → length words ≡ word_count z → HasReached (g.A.ReadWords.reached c.locate.new.access) words → KeepsMap z words keys
     → ReachesRun (g.A.ReadWords.reached c.args.access.now) (g.A.ReadWords.reached c.locate.new.access) z (cell_at z words) c.args.home) c.self.view_is
     (λ words keys long agrees k. c.in-Some.ensures.near words keys agrees k)
 
 pub returns-in-None-clause-near : goal.returns-in-None-clause-near
 returns-in-None-clause-near g c =
     subst
-    (λ (z : Sizes). (words : List ℕ) (keys : List Key) → length words ≡ word_count z → Agrees (g.A.ReadWords.reached c.locate.new.access) words → KeepsMap z words keys
+    (λ (z : Sizes). (words : List ℕ) (keys : List Key) → length words ≡ word_count z → HasReached (g.A.ReadWords.reached c.locate.new.access) words → KeepsMap z words keys
     → ReachesRun (g.A.ReadWords.reached c.args.access.now) (g.A.ReadWords.reached c.locate.new.access) z (cell_at z words) c.args.home) c.self.view_is
     (λ words keys long agrees k. c.in-None.ensures.near words keys agrees k)

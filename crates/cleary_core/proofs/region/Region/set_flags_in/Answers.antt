@@ -1,5 +1,5 @@
 use Rattle.std.proofs.Common.{◌≡◌, ◌∙◌, ℕ, List, refl, sym, ap, subst}
-use Rattle.cleary_core.specs.Access.{Agrees}
+use Rattle.cleary_core.specs.Access.{HasReached}
 use Rattle.cleary_core.specs.Cells.{cell_at, word_count}
 use Rattle.cleary_core.specs.Answers.{StayWithout, flagged}
 use Rattle.cleary_core.specs.Change.{OnlyFlags}
@@ -15,7 +15,7 @@ returns-in_default-clause-flagged g c = subst (λ (z : Sizes). (keys : List Key)
     (λ keys k.
     let old : List ℕ = g.A.WriteWords.words c.args.access.now in
     let same = (g.met.A.WriteWords.same c.args.access.now c.locate.new.access c.locate.ensures.reads).0 in
-    let agrees : Agrees (g.A.ReadWords.reached c.locate.new.access) old = subst (λ (w : List ℕ). Agrees (g.A.ReadWords.reached c.locate.new.access) w) same (g.met.A.WriteWords.stands c.locate.new.access (word_count c.self.inside.sizes) c.locate.ensures.words).1 in
+    let agrees : HasReached (g.A.ReadWords.reached c.locate.new.access) old = subst (λ (w : List ℕ). HasReached (g.A.ReadWords.reached c.locate.new.access) w) same (g.met.A.WriteWords.stands c.locate.new.access (word_count c.self.inside.sizes) c.locate.ensures.words).1 in
     let absent = c.in_default.ensures.found old keys agrees k in
     subst (λ (w : List ℕ). KeepsMap c.self.inside.sizes w (flagged c.args.home c.args.quotient c.args.value keys)) (sym same)
     (subst (λ (l : List Key). KeepsMap c.self.inside.sizes old l) (sym (flagged_absent c.args.home c.args.quotient c.args.value keys absent)) k))
@@ -28,7 +28,7 @@ returns-clause-flagged g c = subst (λ (z : Sizes). (keys : List Key) → KeepsM
     (λ keys k.
     let old : List ℕ = g.A.WriteWords.words c.args.access.now in
     let same = (g.met.A.WriteWords.same c.args.access.now c.locate.new.access c.locate.ensures.reads).0 in
-    let agrees : Agrees (g.A.ReadWords.reached c.locate.new.access) old = subst (λ (w : List ℕ). Agrees (g.A.ReadWords.reached c.locate.new.access) w) same (g.met.A.WriteWords.stands c.locate.new.access (word_count c.self.inside.sizes) c.locate.ensures.words).1 in
+    let agrees : HasReached (g.A.ReadWords.reached c.locate.new.access) old = subst (λ (w : List ℕ). HasReached (g.A.ReadWords.reached c.locate.new.access) w) same (g.met.A.WriteWords.stands c.locate.new.access (word_count c.self.inside.sizes) c.locate.ensures.words).1 in
     let f = c.in-Some.ensures.found old keys agrees k in
     let cells : ℕ → Cell = cell_at c.self.inside.sizes (g.A.WriteWords.words c.args.access.now) in
     let read : g.A.WriteWords.words c.own_cell-here.new.access ≡ old = c.own_cell-here.ensures.same ∙ same in
@@ -77,6 +77,6 @@ returns-clause-absent g c =
       stay = λ keys k absent.
           let z : Sizes = c.self.inside.sizes in
           let same = (g.met.A.WriteWords.same c.args.access.now c.locate.new.access c.locate.ensures.reads).0 in
-          let agrees : Agrees (g.A.ReadWords.reached c.locate.new.access) old = subst (λ (w : List ℕ). Agrees (g.A.ReadWords.reached c.locate.new.access) w) same (g.met.A.WriteWords.stands c.locate.new.access (word_count z) c.locate.ensures.words).1 in
+          let agrees : HasReached (g.A.ReadWords.reached c.locate.new.access) old = subst (λ (w : List ℕ). HasReached (g.A.ReadWords.reached c.locate.new.access) w) same (g.met.A.WriteWords.stands c.locate.new.access (word_count z) c.locate.ensures.words).1 in
           absurd (absent (found_here z.cells (cell_at z old) keys k c.args.home c.args.quotient c.in-Some.at (c.in-Some.ensures.found old keys agrees k)));
     }

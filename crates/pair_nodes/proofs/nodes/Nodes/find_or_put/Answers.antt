@@ -52,4 +52,4 @@ returns-in-None-clause-full g c =
     let word : c.pack-word.result ≡ 9223372036854775808 + pair_of g.row.W c.args.left c.args.right = c.pack-word.ensures.number in
     subst (λ (s : Store). Passed (node_buckets s.about) (Listed c.probe.new.pass.seat.me.0.known) (pair_of s.about.width c.args.left c.args.right) (reach (node_buckets s.about))) c.self.view_is
     (passed_parts c.self.inside.table.about c.probe.new.pass.seat.me.0 c.pack-word.result (pair_of c.self.inside.table.about.width c.args.left c.args.right) _ e.rest.seat.about_is
-    (let same = ap (λ (w : ℕ). pair_of w c.args.left c.args.right) is.width_is in omega (arith, word, same)) e.told.passed)
+    (let same = ap (λ (w : ℕ). pair_of w c.args.left c.args.right) is.width_is in omega (arith, word, same)) e.ends.passed)

@@ -7,7 +7,7 @@ use Rattle.pair_rule.specs.Laws.{IsAbout}
 use Rattle.pair_rule.specs.Part.{Store}
 use Rattle.pair_rule.specs.Paths.{node_buckets, size}
 use Rattle.pair_rule.specs.Rest.{names_of_callers}
-use Rattle.pair_rule.specs.Rule.{Kept}
+use Rattle.pair_rule.specs.Rule.{StoreRule}
 use Rattle.pair_rule.specs.View.{newcomer}
 use Rattle.pair_rule.specs.declared.sizes.About.{About}
 use Rattle.pair_rule.specs.declared.view.View.{View}
@@ -24,7 +24,7 @@ of_words-requires g c =
     let about : About = record { sizes = c.args.sizes.now; slots = c.args.slots; root_words = c.words-root_words.result; width = g.row.W; flags = g.row.F } in
     let is : IsAbout g.R.RootPart.part.sized g.R.RootPart.part.count about = record { range = c.requires; root_words_are = c.words-root_words.ensures.all; root_words_small = c.words-root_words.ensures.small } in
     let count : (1 + c.bucket_count.result) + c.words-root_words.result ≡ suc (size (node_buckets about)) + c.words-root_words.result = omega (arith, c.bucket_count.ensures.same) in
-    subst (λ (v : View g.row.R-View.Denot). Kept about (g.R.RootPart.part.roots about) (g.R.RootPart.holds about) (opening c.as_slice.result.now [] v)) (sym c.of.ensures)
+    subst (λ (v : View g.row.R-View.Denot). StoreRule about (g.R.RootPart.part.roots about) (g.R.RootPart.holds about) (opening c.as_slice.result.now [] v)) (sym c.of.ensures)
     (opens_words _ about g.R.RootPart.part.roots (g.R.RootPart.holds about) c.as_slice.result.now (g.R.RootPart.first about) ((1 + c.bucket_count.result) + c.words-root_words.result) []
     (c.as_slice.ensures.value ∙ c.in_ok-words.ensures) count c.requires.least_nodes (g.met.R.RootPart.roots_first about) (λ ws long zero. g.met.R.RootPart.starts about ws refl refl is long zero))
 

@@ -1,11 +1,10 @@
 use Rattle.std.proofs.Common.{arith, ◌*◌}
-use Rattle.tree_store.proofs.Census.{few_plain_names, few_bytes}
-use Rattle.tree_store.proofs.counts.TreeStore+PlainRoot+W+F+W+F.raw_bytes.Goals as goal
+use Rattle.tree_store.proofs.Census.{few_bytes}
+use Rattle.tree_store.proofs.counts.raw_bytes_of.Goals as goal
 
 pub overflow_mul-result-2 : goal.overflow_mul-result-2
 overflow_mul-result-2 g c =
-    let t = c.args.self.now in
-    let few = few_plain_names t c.args.pass.now c.requires.rest in
+    let few = g.met.D.RootTable.few_names c.args.store.now c.args.pass.now c.requires.rest in
     let made = c.names_made.ensures.made in
     let count = c.requires.rest.names_count in
     let range = c.slots.ensures.range in
