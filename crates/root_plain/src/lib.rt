@@ -19,6 +19,4 @@ pub use root::{PlainRoot, Roots};
 pub use table::PlainTable;
 
 #[cfg(test)]
-mod crowd;
-#[cfg(test)]
 mod tests;

@@ -4,6 +4,8 @@ ghost use Rattle.tdb_base.specs.History.{Vector, name_of};
 ghost use Rattle.pair_rule.specs.Rest.{AtRest, view};
 ghost use Rattle.root_plain.specs.Plain.{plain};
 
+mod crowd;
+
 use crate::{PlainRoot, find_id, put_root, root_pair};
 use pair_nodes::Nodes;
 use pair_rule::{PairTable, Pass, RootsFull, Sizes};

@@ -16,8 +16,4 @@ pub use run::{puts_are_few, run_lines};
 pub use worker::Worker;
 
 #[cfg(test)]
-mod crowd;
-#[cfg(test)]
-mod schedules;
-#[cfg(test)]
 mod tests;

@@ -1,4 +1,8 @@
 //! The lines of workers against the definition, tried line by line.
+
+mod crowd;
+mod schedules;
+
 use super::line_of;
 use super::lines::{Turn, count_of, turn_of};
 use super::turns::Turns;

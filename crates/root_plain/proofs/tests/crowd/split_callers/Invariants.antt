@@ -1,7 +1,7 @@
 use Rattle.std.specs.Prelude.{All}
 use Rattle.pair_rule.specs.Rest.{AtRest}
 use Rattle.root_plain.specs.Plain.{plain}
-use Rattle.root_plain.proofs.crowd.split_callers.Given as goal
+use Rattle.root_plain.proofs.tests.crowd.split_callers.Given as goal
 
 abbrev pub invariant-loop-number : goal.invariant-loop-number
 invariant-loop-number l = record {

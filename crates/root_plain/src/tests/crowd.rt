@@ -4,8 +4,8 @@ ghost use Rattle.std.specs.Prelude.{◌≡◌, ◌<◌, ◌≤◌, All, IfOk};
 ghost use Rattle.pair_rule.specs.Rest.{AtRest};
 ghost use Rattle.root_plain.specs.Plain.{plain};
 
+use super::{Store, StorePass, put, store};
 use crate::Roots;
-use crate::tests::{Store, StorePass, put, store};
 use pair_rule::PassOf;
 use std::alloc::Global;
 use std::process::Abort;

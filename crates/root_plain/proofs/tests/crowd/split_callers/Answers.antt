@@ -1,11 +1,11 @@
 use Rattle.std.proofs.Common.{subst, sym}
 use Rattle.std.specs.Prelude.{All}
 use Rattle.std.proofs.lemmas.List.Elements.{All-push}
-use Rattle.root_plain.specs.declared.crowd.Caller.{Caller}
+use Rattle.root_plain.specs.declared.tests.crowd.Caller.{Caller}
 use Rattle.pair_rule.specs.Part.{Store}
 use Rattle.pair_rule.specs.Rest.{AtRest}
 use Rattle.root_plain.specs.Plain.{plain}
-use Rattle.root_plain.proofs.crowd.split_callers.Goals as goal
+use Rattle.root_plain.proofs.tests.crowd.split_callers.Goals as goal
 
 pub loop-number-preserved : goal.loop-number-preserved
 loop-number-preserved c =
