@@ -7,7 +7,7 @@ use Rattle.std.proofs.lemmas.Bool.Decides.{same_from_decides}
 use Rattle.std.proofs.lemmas.List.Folds.{fold-map}
 use Rattle.std.proofs.lemmas.List.FromFn.{fill_by_all}
 use Rattle.tree_shape.specs.Positions.{IsAbove, IsDepth}
-use Rattle.tree_shape.specs.Changed.{DiffersAt, IsChanged, is_changed, changed_count, IsMarked, marked_count}
+use Rattle.tree_shape.specs.Changed.{DiffersAt, AreSame, IsChanged, is_changed, changed_count, IsMarked, marked_count}
 use Rattle.tree_shape.proofs.Places.{halved_before, halved_after}
 use Rattle.tree_shape.proofs.Sets.{changed_tested}
 
@@ -44,16 +44,16 @@ module _ (k : ℕ) (u v : List ℕ) (done : ℕ) (marks : List Bool) (count : �
       let t = (s.marked p h).1 in
       s.every (p / 2) (big, (t.0, t.1, t.2, (suc t.3.0, sym (halved_after ((k + t.0) / 2) t.3.0) ∙ ap (λ m. m / 2) t.3.1)))
 
-  -- a slot that is the same in both
-  pub passes_same : get_or u done 0 ≡ get_or v done 0 → Passed k u v (done + 1) marks count
-  passes_same same = record {
+  -- slots that are all the same in both
+  pub passes_all_same : (end : ℕ) → done ≤ end → AreSame u v done end → Passed k u v end marks count
+  passes_all_same end le same = record {
     marked = λ p h. let t = s.marked p h in (t.0, (t.1.0, omega (arith, t.1.1), t.1.2, t.1.3));
     every = λ p h. ⊎_elim
         (λ (before : h.1.0 < done). s.every p (h.0, (h.1.0, before, h.1.2, h.1.3)))
-        (λ (last : done ≤ h.1.0). let here : done ≡ h.1.0 = omega (arith, h.1.1) in absurd (h.1.2 (subst (λ (j : ℕ). get_or u j 0 ≡ get_or v j 0) here same)))
+        (λ (later : done ≤ h.1.0). absurd (h.1.2 (same h.1.0 later h.1.1)))
         (cases_lt h.1.0 done);
     counted = s.counted;
-    none_yet = λ j only le. s.none_yet j only (omega arith);
+    none_yet = λ j only later. s.none_yet j only (omega (arith, le, later));
     few = s.few;
   }
 

@@ -8,6 +8,10 @@ use Rattle.tree_shape.specs.Positions.{IsAbove}
 abbrev pub DiffersAt : List ℕ → List ℕ → ℕ → Type 0
 DiffersAt u v j = slice_index u j ≢ slice_index v j
 
+-- from slot j on the vectors are the same in all slots before the end
+abbrev pub AreSame : List ℕ → List ℕ → ℕ → ℕ → Type 0
+AreSame u v j end = (i : ℕ) → j ≤ i → i < end → slice_index u i ≡ slice_index v i
+
 -- the vectors of k slots differ in a slot that the position p is above
 abbrev pub DiffersBelow : ℕ → List ℕ → List ℕ → ℕ → Type 0
 DiffersBelow k u v p = (j : ℕ) × (j < k) × DiffersAt u v j × IsAbove p (k + j)
