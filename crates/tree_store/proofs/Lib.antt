@@ -6,3 +6,4 @@ pub mod Never
 pub mod Inserts
 pub mod Census
 pub mod Opens
+pub mod TakenOver

@@ -1,5 +1,5 @@
 -- Vectors of a store, and the trees that keep them.
-use Rattle.std.specs.Prelude.{◌≡◌, ℕ, zero, suc, ◌+◌, ◌-◌, ◌*◌, ◌^◌, ◌<◌, ◌≤◌, List, ◌++◌, All, Option, Some}
+use Rattle.std.specs.Prelude.{◌≡◌, ◌≢◌, ℕ, zero, suc, ◌+◌, ◌-◌, ◌*◌, ◌^◌, ◌<◌, ◌≤◌, List, ◌++◌, All, Option, Some}
 use Rattle.std.specs.Prelude.{None, Bool, false, length, drop, slice_index, slice_index_or, option_map}
 use Rattle.std.specs.Prelude.{if◌then◌else◌}
 use Rattle.tree_shape.specs.Tree.{Has, Stands, RootStands}
@@ -69,6 +69,27 @@ MarksChanges about marks last next =
     (position : ℕ) → 2 ≤ position → position < about.slots → (IsMarked marks position → ⊥)
     → IsChanged about.slots (drop about.slots last) (drop about.slots next) position → ⊥
 
+-- no position from one on and before another is marked
+abbrev pub NoneMarked : List Bool → ℕ → ℕ → Type 0
+NoneMarked marks from end = (p : ℕ) → from ≤ p → p < end → IsMarked marks p → ⊥
+
+-- the last inner position before the end that is marked
+pub record IsLastMarked (marks : List Bool) (end p : ℕ) : Type 0 where
+  pub inner : 2 ≤ p
+  pub before : p < end
+  pub marked : IsMarked marks p
+  pub none_later : NoneMarked marks (p + 1) end
+
+-- a tree of so many slots has the inner positions of another one, and its own slots
+pub record IsTakenOver (slots : ℕ) (last old new : List ℕ) : Type 0 where
+  pub long : length new ≡ 2 * slots
+  pub slots_stay : drop slots new ≡ drop slots old
+  pub inner : (p : ℕ) → 2 ≤ p → p < slots → slice_index new p ≡ slice_index last p
+
+-- at all positions but one a tree is as it was
+abbrev pub KeepsOthers : ℕ → List ℕ → List ℕ → Type 0
+KeepsOthers p old new = (q : ℕ) → q ≢ p → slice_index new q ≡ slice_index old q
+
 -- the vector in the slots of a tree
 abbrev pub slots_of : About → List ℕ → Vector
 slots_of about tree = drop about.slots tree
@@ -115,7 +136,6 @@ module _ {T : Type 0} where
   KeepsLast old new = new ≡ record old {
     seat = new.seat;
     nodes_count = new.nodes_count;
-    next_tree =
-        new.next_tree;
+    next_tree = new.next_tree;
     marks = new.marks;
   }

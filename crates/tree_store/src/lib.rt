@@ -6,6 +6,7 @@ mod counts;
 mod create;
 mod fits;
 mod insert;
+mod marked;
 mod passes;
 mod plain;
 mod read;

@@ -1,23 +1,24 @@
 //! The inner nodes of a vector's tree, put from the last position down to position 2.
-ghost use Rattle.std.specs.Prelude.{◌≡◌, ℕ, ◌+◌, ◌-◌, ◌*◌, ◌^◌, ◌<◌, ◌≤◌, ◌↔◌, true, drop, length, IfOk};
+ghost use Rattle.std.specs.Prelude.{◌≡◌, ℕ, ◌+◌, ◌-◌, ◌*◌, ◌^◌, ◌<◌, ◌≤◌, ◌↔◌, drop, length, IfOk};
 ghost use Rattle.std.specs.Prelude.{OnErr, option_map};
 ghost use Rattle.tree_shape.specs.Changed.{IsChanged, IsMarked, marked_count, changed_count};
 ghost use Rattle.tdb_base.specs.Fakes.{counted};
 ghost use Rattle.pair_rule.specs.Rest.{AtRest, view};
 ghost use Rattle.pair_nodes.specs.Probe.{Probed};
 ghost use Rattle.tree_store.specs.Vectors.{IsVector, slots_of, IsBlockedInside, StandsFrom, Building};
-ghost use Rattle.tree_store.specs.Vectors.{Refused, raised, RaisedWithin, MarksChanges, mark_at, marks_from};
-ghost use Rattle.tree_store.specs.Vectors.{KeepsLast, compared, puts_after};
+ghost use Rattle.tree_store.specs.Vectors.{Refused, raised, RaisedWithin, KeepsLast, KeepsOthers};
+ghost use Rattle.tree_store.specs.Vectors.{compared, puts_after};
 
+use crate::marked::put_marked;
 use pair_nodes::Nodes;
 use pair_rule::{NodesFull, Pass, PassOf, RootPart};
 use tdb_base::{Ledger, Steps};
 use tree_shape::Shape;
 
-// Puts the node of the inner position `p` into the tree that is being put, whose later positions all stand
-// for parts of the vector in its slots.
+/// Puts the node of the inner position `p` into the tree that is being put, whose later positions all stand
+/// for parts of the vector in its slots.
 #[inline]
-fn put_position<R: RootPart<W, F>, L: Ledger, const W: u32, const F: u32>(
+pub(crate) fn put_position<R: RootPart<W, F>, L: Ledger, const W: u32, const F: u32>(
     nodes: &Nodes<R, W, F>,
     pass: &mut Pass<R, W, F>,
     p: usize,
@@ -33,6 +34,7 @@ fn put_position<R: RootPart<W, F>, L: Ledger, const W: u32, const F: u32>(
     ensures keeps { KeepsLast pass.old pass.new }
     ensures vector { slots_of nodes.now.about pass.new.next_tree.items ≡ slots_of nodes.now.about
         pass.old.next_tree.items }
+    ensures others { KeepsOthers p pass.old.next_tree.items pass.new.next_tree.items }
     ensures marks { pass.new.marks ≡ pass.old.marks }
     ensures stands { IfOk result
         (λ done. StandsFrom nodes.now.about (slots_of nodes.now.about pass.old.next_tree.items) p
@@ -52,31 +54,6 @@ fn put_position<R: RootPart<W, F>, L: Ledger, const W: u32, const F: u32>(
     };
     pass.next_tree[p] = index as u32;
     Ok(())
-}
-
-// Takes the number of the inner position `p` from the last tree, where the vectors are the same below.
-#[inline]
-fn keep_position<R: RootPart<W, F>, const W: u32, const F: u32>(
-    nodes: &Nodes<R, W, F>,
-    pass: &mut Pass<R, W, F>,
-    p: usize,
-)
-    requires rest { AtRest R.part nodes.now pass.old }
-    requires last { pass.old.has_last ≡ true }
-    requires inner { (2 ≤ p) × (p < nodes.now.about.slots) }
-    requires same { IsChanged nodes.now.about.slots (slots_of nodes.now.about pass.old.last_tree.items)
-        (slots_of nodes.now.about pass.old.next_tree.items) p → ⊥ }
-    requires stands { StandsFrom nodes.now.about (slots_of nodes.now.about pass.old.next_tree.items) (p + 1)
-        (view pass.old).known pass.old.next_tree.items }
-    ensures rest { AtRest R.part nodes.now pass.new }
-    ensures tree { pass.new ≡ record pass.old { next_tree = pass.new.next_tree } }
-    ensures vector { slots_of nodes.now.about pass.new.next_tree.items ≡ slots_of nodes.now.about
-        pass.old.next_tree.items }
-    ensures stands { StandsFrom nodes.now.about (slots_of nodes.now.about pass.old.next_tree.items) p
-        (view pass.old).known pass.new.next_tree.items }
-{
-    let _ = nodes;
-    pass.next_tree[p] = pass.last_tree[p];
 }
 
 // Puts all inner nodes of the vector in the slots of the tree that is being put.
@@ -109,91 +86,6 @@ pub(crate) fn put_all<R: RootPart<W, F>, L: Ledger, const W: u32, const F: u32>(
 {
     for i in 2..slots {
         let Ok(()) = put_position(nodes, pass, slots + 1 - i, steps) else {
-            return Err(NodesFull);
-        };
-    }
-    Ok(())
-}
-
-// Puts the node of a position that is marked; takes the number of another from the last tree.
-#[inline]
-fn put_or_keep<R: RootPart<W, F>, L: Ledger, const W: u32, const F: u32>(
-    nodes: &Nodes<R, W, F>,
-    pass: &mut Pass<R, W, F>,
-    p: usize,
-    steps: &mut Steps<L>,
-) -> Result<(), NodesFull>
-    requires rest { AtRest R.part nodes.now pass.old }
-    requires last { pass.old.has_last ≡ true }
-    requires inner { (2 ≤ p) × (p < nodes.now.about.slots) }
-    requires vector { IsVector nodes.now.about (slots_of nodes.now.about pass.old.next_tree.items) }
-    requires marks { MarksChanges nodes.now.about pass.old.marks.items pass.old.last_tree.items
-        pass.old.next_tree.items }
-    requires stands { StandsFrom nodes.now.about (slots_of nodes.now.about pass.old.next_tree.items) (p + 1)
-        (view pass.old).known pass.old.next_tree.items }
-    ensures rest { AtRest R.part nodes.now pass.new }
-    ensures keeps { KeepsLast pass.old pass.new }
-    ensures vector { slots_of nodes.now.about pass.new.next_tree.items ≡ slots_of nodes.now.about
-        pass.old.next_tree.items }
-    ensures marks { pass.new.marks ≡ pass.old.marks }
-    ensures stands { IfOk result
-        (λ done. StandsFrom nodes.now.about (slots_of nodes.now.about pass.old.next_tree.items) p
-        (view pass.new).known pass.new.next_tree.items) }
-    ensures put { IfOk result
-        (λ done. Building nodes.now.about (slots_of nodes.now.about pass.old.next_tree.items)
-        (mark_at pass.old.marks.items p) (view pass.old) (view pass.new)) }
-    ensures ticks { IfOk result
-        (λ done. L.count steps.new ≡ raised (mark_at pass.old.marks.items p) (L.count steps.old)) }
-    ensures full { OnErr result
-        (IsBlockedInside nodes.now.about (view pass.new).known
-        (slots_of nodes.now.about pass.old.next_tree.items)) }
-    ensures full_puts_none { OnErr result (Probed 1 (view pass.old) (view pass.new)) }
-    ensures full_tick { OnErr result (L.count steps.new ≡ option_map counted (L.count steps.old)) }
-    ensures full_marked { OnErr result (mark_at pass.old.marks.items p ≡ 1) }
-{
-    if pass.marks[p] {
-        return put_position(nodes, pass, p, steps);
-    }
-    keep_position(nodes, pass, p);
-    Ok(())
-}
-
-// Puts the inner nodes of the vector in the slots of the tree that is being put, at the marked positions;
-// takes the others from the last tree.
-pub(crate) fn put_marked<R: RootPart<W, F>, L: Ledger, const W: u32, const F: u32>(
-    nodes: &Nodes<R, W, F>,
-    pass: &mut Pass<R, W, F>,
-    slots: usize,
-    steps: &mut Steps<L>,
-) -> Result<(), NodesFull>
-    requires rest { AtRest R.part nodes.now pass.old }
-    requires slots { slots ≡ nodes.now.about.slots }
-    requires vector { IsVector nodes.now.about (slots_of nodes.now.about pass.old.next_tree.items) }
-    requires leaves { StandsFrom nodes.now.about (slots_of nodes.now.about pass.old.next_tree.items) slots
-        (view pass.old).known pass.old.next_tree.items }
-    requires last { pass.old.has_last ≡ true }
-    requires marks { MarksChanges nodes.now.about pass.old.marks.items pass.old.last_tree.items
-        pass.old.next_tree.items }
-    ensures rest { AtRest R.part nodes.now pass.new }
-    ensures keeps { KeepsLast pass.old pass.new }
-    ensures vector { slots_of nodes.now.about pass.new.next_tree.items ≡ slots_of nodes.now.about
-        pass.old.next_tree.items }
-    ensures stands { IfOk result
-        (λ done. StandsFrom nodes.now.about (slots_of nodes.now.about pass.old.next_tree.items) 2
-        (view pass.new).known pass.new.next_tree.items) }
-    ensures put { IfOk result
-        (λ done. Building nodes.now.about (slots_of nodes.now.about pass.old.next_tree.items)
-        (marks_from 2 pass.old.marks.items) (view pass.old) (view pass.new)) }
-    ensures ticks { IfOk result
-        (λ done. L.count steps.new ≡ raised (marks_from 2 pass.old.marks.items) (L.count steps.old)) }
-    ensures full { OnErr result
-        (Refused nodes.now.about (slots_of nodes.now.about pass.old.next_tree.items)
-        (marks_from 2 pass.old.marks.items) (view pass.old) (view pass.new)) }
-    ensures full_ticks { OnErr result
-        (RaisedWithin (marks_from 2 pass.old.marks.items) (L.count steps.old) (L.count steps.new)) }
-{
-    for i in 2..slots {
-        let Ok(()) = put_or_keep(nodes, pass, slots + 1 - i, steps) else {
             return Err(NodesFull);
         };
     }
