@@ -2,7 +2,7 @@ use Rattle.std.proofs.Common.{◌≡◌, ⊎_elim, ap, ◌∙◌}
 use Rattle.std.specs.Prelude.{◌⊎◌, Err}
 use Rattle.tree_store.specs.Ranges.{NodesFit, RootsFit, ProbeFits, IsFirstOut}
 use Rattle.pair_rule.specs.declared.sizes.Sizes.{Sizes}
-use Rattle.treedb.proofs.plain.make_store.Goals as goal
+use Rattle.treedb.proofs.store.make_store.Goals as goal
 
 -- sizes that all fit have no first one out of its range
 none_out : (width n : _) (sizes : Sizes) → NodesFit width sizes → RootsFit sizes → ProbeFits sizes → IsFirstOut width sizes n → ⊥
