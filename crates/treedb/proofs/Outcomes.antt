@@ -124,10 +124,10 @@ module _ {S K : Type 0} (c : Choice) (source : SourceStep S) (sink : SinkStep K)
   pub has_drawn : source.new ≡ source.old → is_reader c.job ≡ false → HasInput
   has_drawn unread draws = record {
     within = λ status other. record {
-          gave = [];
-          given = subst (λ (x : S). Consumes (source.left source.old) (source.left x) []) (sym unread) (consumes-none (source.left source.old));
-          too_much = (λ t. absurd (other t), λ (less : limit < 0). absurd (omega (arith, less)));
-        };
+      gave = [];
+      given = subst (λ (x : S). Consumes (source.left source.old) (source.left x) []) (sym unread) (consumes-none (source.left source.old));
+      too_much = (λ t. absurd (other t), λ (less : limit < 0). absurd (omega (arith, less)));
+    };
     at_end = λ r. cc (r, draws);
     drawn = λ r. unread;
   }
@@ -277,14 +277,14 @@ module _ {S K : Type 0} (c : Choice) (source : SourceStep S) (sink : SinkStep K)
     unfolding run_of
     whole appends only settles zero count =
         printed_end e.Done refl (λ other. record {
-              run = run_of;
-              text = text;
-              is_text = writes;
-              taken = appends;
-              only = only;
-              full = (λ f. cc f, λ f. let none = (any_full replies).0 count in cc (f, none));
-              never_refuted = λ r. cc r;
-            })
+          run = run_of;
+          text = text;
+          is_text = writes;
+          taken = appends;
+          only = only;
+          full = (λ f. cc f, λ f. let none = (any_full replies).0 count in cc (f, none));
+          never_refuted = λ r. cc r;
+        })
         (λ checks. absurd (inserts checks)) settles tt
     whole appends only settles (suc n) count =
         let printed : Prints (Some c) (source.left source.old) (sink.taken sink.old) (sink.taken sink.new) s.Full = record {
