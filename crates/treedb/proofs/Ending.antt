@@ -1,5 +1,5 @@
 -- From the end of a run and its note to all that the run leaves.
-use Rattle.std.proofs.Common.{◌≡◌, Bool, true, false, Option, subst, sym, ap, ◌∙◌}
+use Rattle.std.proofs.Common.{◌≡◌, true, false, Option, subst, sym, ap, ◌∙◌}
 use Rattle.tdb_base.specs.Causes.{Rose}
 use Rattle.tdb_base.specs.declared.reply.Status.{Status}
 use Rattle.command_line.specs.declared.outcome.Choice.{Choice}

@@ -1,5 +1,5 @@
 -- Choices that are offered.
-use Rattle.std.proofs.Common.{◌≡◌, List, Bool, true, false, Option, Some, None, ℕ, refl, arith, ap, ◌∙◌}
+use Rattle.std.proofs.Common.{◌≡◌, List, Bool, true, false, Option, Some, None, refl, arith, ap, ◌∙◌}
 use Rattle.std.specs.Prelude.{◌==◌, ◌&&◌, not, option_and_then, if◌then◌else◌}
 use Rattle.clap.specs.Words.{Text}
 use Rattle.command_line.specs.Choose.{chosen}

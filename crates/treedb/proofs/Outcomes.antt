@@ -1,7 +1,7 @@
 -- From what the parts of a run leave to what is told of its end.
-use Rattle.std.proofs.Common.{◌≡◌, ◌≢◌, ◌<◌, ℕ, zero, suc, List, [], ◌∷◌, ◌+◌, Bool, true, false, cond, Option, Some, None, refl, sym, ap, ◌∙◌, subst, ⊎_elim, arith, take, length}
+use Rattle.std.proofs.Common.{◌≡◌, ◌≢◌, ◌<◌, ℕ, zero, suc, List, [], ◌∷◌, ◌+◌, Bool, true, false, cond, Option, Some, refl, sym, ap, ◌∙◌, subst, ⊎_elim, arith, take, length}
 use Rattle.std.proofs.lemmas.List.Sums.{sum_by-cons}
-use Rattle.std.specs.Prelude.{◌^◌, All, ◌||◌, ◌↔◌, ◌⊎◌, drop, IfSome, Result, Ok, Err, count_by}
+use Rattle.std.specs.Prelude.{◌^◌, All, ◌||◌, ◌↔◌, drop, IfSome, Result, Ok, Err, count_by}
 use Rattle.std.specs.List.{list_any, range_with_len}
 use Rattle.std.specs.Io.KnownBytes.{Appends, Consumes, IsAtEnd}
 use Rattle.tdb_base.specs.Causes.{Rose}
@@ -24,10 +24,9 @@ use Rattle.run_check.specs.Text.{IsReportOf}
 use Rattle.run_check.specs.declared.verdict.Verdict.{Verdict}
 use Rattle.run_check.specs.declared.verdict.Verdict.TheVariants as v
 use Rattle.run_check.proofs.Verdicts.{least-same}
-use Rattle.command_line.specs.declared.outcome.Job.{Job}
-use Rattle.command_line.specs.declared.outcome.Job.TheVariants.{Insert, Distinct, Bench, Check}
+use Rattle.command_line.specs.declared.outcome.Job.TheVariants.{Insert, Check}
 use Rattle.command_line.specs.declared.outcome.Choice.{Choice}
-use Rattle.treedb.specs.Check.{HasTrace, IsInput, IsWrongInput, Judged, PrintsVerdict, PrintsVerdictFront, WritesVerdict, ended_with_verdict, verdict_text}
+use Rattle.treedb.specs.Check.{HasTrace, IsWrongInput, Judged, PrintsVerdict, PrintsVerdictFront, WritesVerdict, ended_with_verdict, verdict_text}
 use Rattle.treedb.specs.Lines.{HasNoTrace, IsTraceFor, is_reader}
 use Rattle.treedb.specs.Note.{status_of}
 use Rattle.treedb.specs.Offered.{flag_count, is_check}

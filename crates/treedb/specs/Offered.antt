@@ -1,6 +1,6 @@
 -- Which of the choices that words can make the program offers.
-use Rattle.std.specs.Prelude.{◌≡◌, ◌⊎◌, ◌==◌, ◌&&◌, ◌||◌, ℕ, Bool, true, false, not, List, Option, Some, None, if◌then◌else◌}
-use Rattle.std.specs.Prelude.{option_and_then}
+use Rattle.std.specs.Prelude.{◌≡◌, ◌⊎◌, ◌==◌, ◌&&◌, ◌||◌, ℕ, Bool, true, false, not, List, Option, Some}
+use Rattle.std.specs.Prelude.{None, if◌then◌else◌, option_and_then}
 use Rattle.clap.specs.Words.{Text}
 use Rattle.command_line.specs.Choose.{chosen}
 use Rattle.command_line.specs.Rules.{is_compact}
@@ -29,8 +29,8 @@ is_check Check = true
 -- As yet in compact mode one worker inserts lines, and no statistics are told. A report is checked in both
 -- modes, and alike.
 abbrev pub is_offered : Choice → Bool
-is_offered c =
-    is_check c.job || (if is_compact c.mode then is_insert c.job && ((c.workers == 1) && not c.stats) else true)
+is_offered c = is_check c.job
+    || (if is_compact c.mode then is_insert c.job && ((c.workers == 1) && not c.stats) else true)
 
 -- the choice of some words, if it is offered
 abbrev pub offered : List Text → Option Choice

@@ -1,5 +1,5 @@
 -- All that is told of a run's end.
-use Rattle.std.specs.Prelude.{◌≡◌, ◌≢◌, ◌⊎◌, ℕ, Bool, true, false, List, Option, Some, None, IfSome, count_by}
+use Rattle.std.specs.Prelude.{◌≡◌, ◌≢◌, ◌⊎◌, ℕ, Bool, true, false, List, Option, None, IfSome, count_by}
 use Rattle.std.specs.Io.KnownBytes.{Appends, IsAtEnd}
 use Rattle.tdb_base.specs.Causes.{Rose}
 use Rattle.tdb_base.specs.History.{Vector}
@@ -67,8 +67,8 @@ pub record Outcome {S K : Type 0} (offer : Option Choice) (source : SourceStep S
   -- with `Done` or `Full` the sink took all of the text: that of replies to the lines, which form one history
   pub replies_form_one_history : is_printed status ≡ true → IfInserts offer
       (Prints offer (source.left source.old) (sink.taken sink.old) (sink.taken sink.new) status)
-  -- where a report is checked, with `Done` or `Refuted`: that of the verdict, which is `yes` exactly where some
-  -- history has the report's replies
+  -- where a report is checked, with `Done` or `Refuted`: that of the verdict, which is `yes` exactly where
+  -- some history has the report's replies
   pub verdict : is_printed status ≡ true → IfChecks offer
       (λ c. PrintsVerdict c (source.left source.old) (sink.taken sink.old) (sink.taken sink.new) status)
   pub settled : is_printed status ≡ true → sink.settled sink.new ≡ true

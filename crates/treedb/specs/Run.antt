@@ -67,8 +67,8 @@ abbrev pub IsOfMode : Mode → Choice → List Vector → List Reply → History
 IsOfMode Plain c trace replies h stats = InStore c trace replies h stats
 IsOfMode Compact c trace replies h stats = IsOfPairs c.profile replies h × (stats ≡ None)
 
--- a run that inserts lines, of a choice over the input that a source tells: its lines, a reply for each, and the one history that
--- the replies form
+-- a run that inserts lines, of a choice over the input that a source tells: its lines, a reply for each, and
+-- the one history that the replies form
 pub record Run (offer : Option Choice) (told : Option (List ℕ)) : Type 0 where
   pub choice : Choice
   pub trace : List Vector
@@ -117,7 +117,8 @@ pub record Headline {offer : Option Choice} {told : Option (List ℕ)} (run : Ru
   pub names_are_kept_for_good : KeepsNames (flag_count run.choice.profile) run.history
   pub printed_vectors_are_those_of_the_lines : PrintsTheLines run text
 
--- the sink took the text of a run, and of no other replies; `Full` is answered exactly where some line is full
+-- the sink took the text of a run, which is that of no other replies; `Full` is the status exactly where some
+-- line is full
 pub record Prints (offer : Option Choice) (told old new : Option (List ℕ)) (status : Status) : Type 0 where
   pub run : Run offer told
   pub text : List ℕ

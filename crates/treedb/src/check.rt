@@ -1,5 +1,6 @@
 //! The job `check`: a trace and a report of it are read, and the verdict on the report is written.
-ghost use Rattle.std.specs.Prelude.{◌≡◌, ◌≢◌, ◌≤◌, ◌++◌, IfErr, IfOk, MatchOption, Some, Err, codes, true, length};
+ghost use Rattle.std.specs.Prelude.{◌≡◌, ◌≢◌, ◌≤◌, ◌++◌, IfErr, IfOk, MatchOption, Some, Err, codes};
+ghost use Rattle.std.specs.Prelude.{length, true};
 ghost use Rattle.std.specs.Fmt.{decimal};
 ghost use Rattle.std.specs.Io.KnownBytes.{IsAtEnd};
 ghost use Rattle.tdb_base.specs.Causes.{Rose};
@@ -129,8 +130,8 @@ fn write_verdict<K: Sink>(verdict: Verdict, sink: &mut K) -> Ended
 /// Reads a trace and a report of its lines from the source, and writes the verdict on the report.
 ///
 /// The first refusal is the answer: `ReadFault` and `TooMuch` for the source, `NoReport` where no line is `#`
-/// alone, `BadTrace` for what stands before that line, `WrongReport` for what stands after it. `Done` says that
-/// some history has the replies, and `Refuted` that none has.
+/// alone, `BadTrace` for what stands before that line, `WrongReport` for what stands after it. `Done` says
+/// that some history has the replies, and `Refuted` that none has.
 pub fn check<S: Source, K: Sink>(
     alloc: Global,
     choice: &Choice,

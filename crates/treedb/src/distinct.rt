@@ -1,7 +1,8 @@
-//! The job `distinct`: the lines of the input are inserted, and the vectors that were answered new are written,
-//! read back from the store by their identifiers, in rising list order.
+//! The job `distinct`: the lines of the input are inserted, and the vectors that were answered new are
+//! written, read back from the store by their identifiers, in rising list order.
 ghost use Rattle.std.specs.Prelude.{◌≡◌, ◌+◌, ◌*◌, ◌++◌, ◌∷◌, ◌≤◌, ◌<◌, ◌^◌, [], ℕ, All, IfOk, IfSome, List};
-ghost use Rattle.std.specs.Prelude.{Some, true, IsPermutation, drop, length, map, slice_get, take, vec_capacity};
+ghost use Rattle.std.specs.Prelude.{Some, true, IsPermutation, drop, length, map, slice_get, take};
+ghost use Rattle.std.specs.Prelude.{vec_capacity};
 ghost use Rattle.std.specs.List.Sorted.{IsSortedByKey};
 ghost use Rattle.tdb_base.specs.History.{name_of};
 ghost use Rattle.tdb_base.specs.Legal.{Extends};

@@ -20,8 +20,8 @@ pub fn write_note<N: Sink>(ended: &Ended, notes: &mut N)
     ensures front { TakesFront (N.taken notes.old) (N.taken notes.new) (note.note_text ended.now) }
     ensures exact { (Rose (N.faults notes.old) (N.faults notes.new) → ⊥)
         → Appends (N.taken notes.old) (N.taken notes.new) (note.note_text ended.now) }
-    ensures settled { note.has_note (note.status_of ended.now) ≡ true → (Rose (N.faults notes.old) (N.faults notes.new) → ⊥)
-        → N.settled notes.new ≡ true }
+    ensures settled { note.has_note (note.status_of ended.now) ≡ true
+        → (Rose (N.faults notes.old) (N.faults notes.new) → ⊥) → N.settled notes.new ≡ true }
     ensures later { N.faults notes.old ≤ N.faults notes.new }
 {
     match ended {

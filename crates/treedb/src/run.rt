@@ -70,10 +70,10 @@ fn tell<N: Sink>(ended: Ended, notes: &mut N) -> Status
 ///
 /// The first refusal is the answer, and then the sink is as it was: `Usage` for words that choose nothing,
 /// and for compact mode; `ReadFault` and `TooMuch` (more than 67,108,864 bytes) for the input; `BadTrace` for
-/// bytes that are no trace, and for a check `BadReport` for an input without a report of its trace. `NoMemory`
-/// comes before the first line is inserted, which no clause here can say, since no store is seen.
-/// `WriteFault` leaves a front of the text. `Full` is the answer where some line is full and the whole text was
-/// written, and `Refuted` where no history has the report that is checked. The note of the end goes to
+/// bytes that are no trace, and for a check `BadReport` for an input without a report of its trace.
+/// `NoMemory` comes before the first line is inserted, which no clause here can say, since no store is seen.
+/// `WriteFault` leaves a front of the text. `Full` is the answer where some line is full and the whole text
+/// was written, and `Refuted` where no history has the report that is checked. The note of the end goes to
 /// `notes` last, and a fault there changes nothing. It waits for nobody.
 pub fn run_plain<R: Threads + Sync, S: Source, K: Sink, N: Sink, G: Gate>(
     rt: &R,

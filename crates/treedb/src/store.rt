@@ -173,8 +173,8 @@ fn insert_into_set<G: Gate>(
 }
 
 /// Inserts the lines of a trace into a new store of the choice's mode, profile and sizes: the reply to each
-/// line, the store's counts if they are asked for, and for `distinct` the vectors that were answered new, each
-/// read back by its identifier.
+/// line, the store's counts if they are asked for, and for `distinct` the vectors that were answered new,
+/// each read back by its identifier.
 ///
 /// In plain mode `NoMemory` comes before the first line is inserted: that is told where the store is in hand,
 /// and no clause here can say it.

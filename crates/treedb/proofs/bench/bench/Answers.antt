@@ -1,12 +1,9 @@
-use Rattle.std.proofs.Common.{List, refl, subst, sym, ap}
-use Rattle.std.specs.Prelude.{Ok}
+use Rattle.std.proofs.Common.{refl, subst, sym, ap}
 use Rattle.command_line.specs.declared.outcome.Job.{Job}
-use Rattle.tdb_base.specs.declared.reply.Reply.{Reply}
 use Rattle.trace_csv.specs.Report.{summary_of, summary_text}
-use Rattle.treedb.specs.Lines.{IsTraceFor, IsTraceText, is_reader}
+use Rattle.treedb.specs.Lines.{IsTraceFor, is_reader}
 use Rattle.treedb.specs.Offered.{is_check}
 use Rattle.treedb.specs.Run.{IsText, TellsOnly}
-use Rattle.treedb.specs.Writing.{WritesText}
 use Rattle.treedb.proofs.Outcomes.{has_drawn, written}
 use Rattle.treedb.proofs.bench.bench.Goals as goal
 

@@ -1,4 +1,4 @@
-use Rattle.std.proofs.Common.{◌≡◌, ℕ, List, length, subst, sym}
+use Rattle.std.proofs.Common.{ℕ, List, subst, sym}
 use Rattle.command_line.specs.declared.outcome.Job.{Job}
 use Rattle.run_check.specs.Sentences.{IsThatVerdict, IsYesWhereHistory}
 use Rattle.run_check.specs.Text.{IsReportOf}

@@ -1,16 +1,14 @@
-use Rattle.std.proofs.Common.{List, Option, refl, subst, sym, ap}
+use Rattle.std.proofs.Common.{Option, refl, subst, sym, ap}
 use Rattle.std.specs.Prelude.{Ok}
 use Rattle.command_line.specs.declared.outcome.Job.{Job}
-use Rattle.tdb_base.specs.declared.reply.Reply.{Reply}
 use Rattle.trace_csv.specs.Vectors.{vectors_text}
-use Rattle.treedb.specs.Lines.{IsTraceFor, IsTraceText, is_reader}
+use Rattle.treedb.specs.Lines.{IsTraceFor, is_reader}
 use Rattle.treedb.specs.Offered.{is_check}
 use Rattle.treedb.specs.ReadBack.{IfPrinted, IsReadBack, vectors}
 use Rattle.treedb.specs.declared.distinct.ReadBack.{ReadBack}
 use Rattle.treedb.specs.Run.{IsText, TellsOnly}
-use Rattle.treedb.specs.Writing.{WritesText}
 use Rattle.treedb.proofs.Outcomes.{has_read, written}
-use Rattle.treedb.proofs.NewLemmas.{distinct-printed, printed-distinct}
+use Rattle.treedb.proofs.NewLemmas.{printed-distinct}
 use Rattle.treedb.proofs.distinct.distinct.Goals as goal
 
 pub returns : goal.returns

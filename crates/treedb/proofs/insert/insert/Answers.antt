@@ -1,13 +1,11 @@
-use Rattle.std.proofs.Common.{List, ℕ, refl, subst, sym, ap, arith}
+use Rattle.std.proofs.Common.{refl, subst, sym, ap, arith}
 use Rattle.std.specs.Prelude.{Ok}
 use Rattle.command_line.specs.declared.outcome.Job.{Job}
-use Rattle.tdb_base.specs.declared.reply.Reply.{Reply}
 use Rattle.trace_csv.specs.Report.{report, summary_of}
-use Rattle.treedb.specs.Lines.{IsTraceFor, IsTraceText, is_reader}
+use Rattle.treedb.specs.Lines.{IsTraceFor, is_reader}
 use Rattle.treedb.specs.Offered.{is_check}
 use Rattle.treedb.specs.Run.{IsText, TellsOnly}
-use Rattle.treedb.specs.Writing.{WritesText}
-use Rattle.treedb.proofs.Outcomes.{has_read, out_of_memory, stopped, tells_only, written}
+use Rattle.treedb.proofs.Outcomes.{has_read, tells_only, written}
 use Rattle.treedb.proofs.insert.insert.Goals as goal
 
 pub returns : goal.returns

@@ -1,4 +1,4 @@
-use Rattle.std.proofs.Common.{◌≤◌, ⊎_elim, rules, arith, ◌≡◌, List, [], ap, subst, sym, ◌∙◌, refl, ℕ, false}
+use Rattle.std.proofs.Common.{◌≤◌, ⊎_elim, rules, arith, ◌≡◌, [], subst, sym, ◌∙◌, refl, ℕ}
 use Rattle.std.specs.Prelude.{◌⊎◌, None}
 use Rattle.std.specs.List.{range_with_len}
 use Rattle.tdb_base.specs.Agrees.{Agrees}
