@@ -119,11 +119,57 @@ check "a record of one field" 3 "treedb: record 2 has 1 fields, the first has 2"
 check "a vector of three slots in compact mode" 3 "treedb: compact mode takes 2 slots" insert --mode compact < <(printf '1,2,3\n')
 check "a number that is too big" 3 "treedb: record 1 field 1 is too big" insert < <(printf '268435456,0\n')
 check "one byte over the limit" 4 "treedb: input is over 67108864 bytes" insert < <(head -c 67108865 /dev/zero | tr '\0' '0')
-usage='usage: treedb insert|distinct|bench [--mode plain|compact] [--profile 16|28|31]'
+usage='usage: treedb insert|distinct|bench|check [--mode plain|compact] [--profile 16|28|31]'
 check "no words" 2 "$usage" < examples/pairs.csv
 check "another mode" 2 "$usage" insert --mode fast < examples/pairs.csv
 check "a word that is no text" 2 "$usage" insert --mode $'\xff' < examples/pairs.csv
 check "a folder for input" 6 "treedb: read fault" insert < .
+
+# Reports of whole runs, as they are and changed. judged NAME STATUS NOTE VERDICT TRACE REPORT WORDS..: the check of a report of a trace
+judged() {
+  local name=$1 status=$2 note=$3 verdict=$4 trace=$5 report=$6
+  shift 6
+  printf "$verdict" > "$work/wanted"
+  { cat "$trace"; echo '#'; cat "$report"; } > "$work/both"
+  check "$name" "$status" "$note" check "$@" < "$work/both"
+}
+
+# changed AWK: the report with its lines changed by an awk program
+changed() {
+  awk -F, -v OFS=, "$1" "$work/report" > "$work/changed"
+}
+
+for workers in 1 8 64; do
+  ./treedb insert --workers $workers --block 16 --stats < "$work/pairs.csv" > "$work/report"
+  judged "a report by $workers workers has a history" 0 "" 'yes\n' "$work/pairs.csv" "$work/report" --workers $workers --block 16
+done
+./treedb insert < "$work/walk.csv" > "$work/report"
+lines=$(wc -l < "$work/walk.csv")
+distinct=$(sed -n 's/^distinct //p' "$work/report")
+judged "a report judged in compact mode" 0 "" 'yes\n' "$work/walk.csv" "$work/report" --mode compact
+
+# the first line answered seen, its number and its identifier; the line that named it; and another identifier
+seen=$(grep -n -m 1 ',seen$' "$work/report")
+line=${seen%%:*}
+id=$(cut -d, -f2 <<< "$seen")
+first=$(grep -n -m 1 ",$id,new$" "$work/report" | cut -d: -f1)
+other=$(awk -F, -v id="$id" '$3 == "new" && $2 != id { print $2; exit }' "$work/report")
+changed "NR == $line { \$3 = \"new\" } { print }"
+judged "a line seen that is told new" 9 "treedb: report line $((lines + 2)) is wrong" '' "$work/walk.csv" "$work/changed"
+changed "NR == $line { \$3 = \"new\" } /^distinct/ { \$0 = \"distinct $((distinct + 1))\" } { print }"
+judged "the same with its count" 10 "" "no twice $first $line\n" "$work/walk.csv" "$work/changed"
+changed "NR == $first { \$3 = \"seen\" } { print }"
+judged "a line new that is told seen" 9 "treedb: report line $((lines + 2)) is wrong" '' "$work/walk.csv" "$work/changed"
+changed "NR == $first { \$3 = \"seen\" } /^distinct/ { \$0 = \"distinct $((distinct - 1))\" } { print }"
+judged "the same with its count" 10 "" "no lone $first\n" "$work/walk.csv" "$work/changed"
+changed "NR == $line { \$2 = \"$other\" } { print }"
+judged "a line with another vector's identifier" 10 "" "no lone $line\n" "$work/walk.csv" "$work/changed"
+changed "\$2 == \"$id\" { \$2 = \"18446744073709551615\" } { print }"
+judged "an identifier that nobody has in place of one" 0 "" 'yes\n' "$work/walk.csv" "$work/changed"
+head -c -1 "$work/report" > "$work/changed"
+judged "a report without its last line feed" 9 "treedb: report line $((lines + 3)) is wrong" '' "$work/walk.csv" "$work/changed"
+wants ''
+check "a trace without a report" 9 "treedb: no report" check < "$work/walk.csv"
 
 # a full device takes no report
 ./treedb insert < examples/pairs.csv > /dev/full 2> "$work/notes"

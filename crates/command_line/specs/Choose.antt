@@ -8,7 +8,7 @@ use Rattle.clap.specs.Words.{Kinds, Text, fault_of, first_of, matches_of}
 use Rattle.command_line.specs.Command.{simple_command}
 use Rattle.command_line.specs.Rules.{keeps_rules}
 use Rattle.command_line.specs.declared.outcome.Job.{Job}
-use Rattle.command_line.specs.declared.outcome.Job.TheVariants.{Insert, Distinct, Bench}
+use Rattle.command_line.specs.declared.outcome.Job.TheVariants.{Insert, Distinct, Bench, Check}
 use Rattle.command_line.specs.declared.outcome.Mode.{Mode}
 use Rattle.command_line.specs.declared.outcome.Mode.TheVariants.{Plain, Compact}
 use Rattle.command_line.specs.declared.outcome.Choice.{Choice}
@@ -42,7 +42,8 @@ abbrev pub job_named : Text → Option Job
 job_named t =
     if bytes_eq t (codes "insert") then Some Insert
     else (if bytes_eq t (codes "distinct") then Some Distinct
-    else (if bytes_eq t (codes "bench") then Some Bench else None))
+    else (if bytes_eq t (codes "bench") then Some Bench
+    else (if bytes_eq t (codes "check") then Some Check else None)))
 
 abbrev pub mode_named : Text → Option Mode
 mode_named t =

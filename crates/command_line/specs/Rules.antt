@@ -2,7 +2,7 @@
 use Rattle.std.specs.Prelude.{◌&&◌, ◌*◌, ℕ, Bool, true, false, Option, if◌then◌else◌, nat_le}
 use Rattle.std.specs.Option.{option_map_or}
 use Rattle.command_line.specs.declared.outcome.Job.{Job}
-use Rattle.command_line.specs.declared.outcome.Job.TheVariants.{Insert, Distinct, Bench}
+use Rattle.command_line.specs.declared.outcome.Job.TheVariants.{Insert, Distinct, Bench, Check}
 use Rattle.command_line.specs.declared.outcome.Mode.{Mode}
 use Rattle.command_line.specs.declared.outcome.Mode.TheVariants.{Plain, Compact}
 use Rattle.command_line.specs.declared.outcome.Choice.{Choice}
@@ -15,6 +15,7 @@ abbrev pub is_bench : Job → Bool
 is_bench Insert = false
 is_bench Distinct = false
 is_bench Bench = true
+is_bench Check = false
 
 -- a size that is left out is at most anything
 abbrev pub is_at_most : Option ℕ → ℕ → Bool

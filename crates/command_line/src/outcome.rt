@@ -2,7 +2,7 @@
 
 /// The usage text, three lines that each end in LF.
 pub const USAGE: &str =
-    "usage: treedb insert|distinct|bench [--mode plain|compact] [--profile 16|28|31]\n  [--workers N] [--block N] [--nodes D] [--roots R] [--region S] [--probe P]\n  [--stats] [--lines N] [--slots K] [--values M] [--seed S]\n";
+    "usage: treedb insert|distinct|bench|check [--mode plain|compact] [--profile 16|28|31]\n  [--workers N] [--block N] [--nodes D] [--roots R] [--region S] [--probe P]\n  [--stats] [--lines N] [--slots K] [--values M] [--seed S]\n";
 
 /// What the program does.
 #[derive(Clone, Copy, Debug, PartialEq, Eq)]
@@ -13,6 +13,8 @@ pub enum Job {
     Distinct,
     /// Inserts a generated trace, and writes the summary.
     Bench,
+    /// Judges a report of a trace, and writes the verdict.
+    Check,
 }
 
 /// The kind of the root table.

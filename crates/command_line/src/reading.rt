@@ -59,6 +59,7 @@ fn job_named(text: &str) -> Option<Job>
         "insert" => Some(Job::Insert),
         "distinct" => Some(Job::Distinct),
         "bench" => Some(Job::Bench),
+        "check" => Some(Job::Check),
         _ => None,
     }
 }

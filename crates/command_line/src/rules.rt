@@ -65,7 +65,7 @@ fn job_allows(choice: &Choice) -> bool
 {
     match choice.job {
         Job::Bench => trace_is_small(choice),
-        Job::Insert | Job::Distinct => true,
+        Job::Insert | Job::Distinct | Job::Check => true,
     }
 }
 

@@ -39,6 +39,7 @@ fn value_of(text: &str) -> Result<u64, Fail> {
     match text {
         "distinct" | "compact" | "on" => Ok(1),
         "bench" => Ok(2),
+        "check" => Ok(3),
         _ => Ok(text.parse::<u64>()?),
     }
 }
@@ -71,6 +72,7 @@ fn job_of(choice: &Choice) -> u64 {
         Job::Insert => 0,
         Job::Distinct => 1,
         Job::Bench => 2,
+        Job::Check => 3,
     }
 }
 
@@ -106,6 +108,10 @@ const TAKEN: &str = "\
 treedb|insert => nothing
 treedb|distinct => job distinct
 treedb|bench => job bench
+treedb|check => job check
+treedb|check|--workers|4|--block|1|--profile|16 => job check,workers 4,block 1,profile 16
+treedb|check|--mode|compact|--stats => job check,mode compact,stats on
+treedb|check|--lines|4194304|--slots|1024 => job check,lines 4194304,slots 1024
 treedb|insert|--mode|plain => nothing
 treedb|insert|--mode|compact => mode compact
 treedb|--mode=compact|insert => mode compact
@@ -167,7 +173,11 @@ const REFUSED: &str = "\
 treedb
 treedb|
 treedb|--stats
-treedb|check
+treedb|chec
+treedb|insert|check
+treedb|check|--profile|16|--nodes|17
+treedb|check|--mode|compact|--roots|5
+treedb|check|--workers|65
 treedb|Insert
 treedb|ins
 treedb|help
@@ -284,7 +294,7 @@ fn has_sizes(alloc: Global, row: &str) -> Result<bool, Fail> {
 
 // The usage text.
 const TOLD: &str = "\
-usage: treedb insert|distinct|bench [--mode plain|compact] [--profile 16|28|31]
+usage: treedb insert|distinct|bench|check [--mode plain|compact] [--profile 16|28|31]
   [--workers N] [--block N] [--nodes D] [--roots R] [--region S] [--probe P]
   [--stats] [--lines N] [--slots K] [--values M] [--seed S]
 ";

@@ -21,7 +21,7 @@ use Rattle.tdb_base.specs.Renamed.{renamed}
 use Rattle.tdb_base.proofs.RenameLemmas.{named-renamed}
 use Rattle.trace_csv.specs.Sorted.{IsSortedSet}
 use Rattle.command_line.specs.declared.outcome.Job.{Job}
-use Rattle.command_line.specs.declared.outcome.Job.TheVariants.{Insert, Distinct, Bench}
+use Rattle.command_line.specs.declared.outcome.Job.TheVariants.{Insert, Distinct, Bench, Check}
 use Rattle.treedb.specs.ReadBack.{IfPrinted, IsReadBack, IsReadBy, ReadsInto, new_id, new_ids, vectors}
 use Rattle.treedb.specs.declared.distinct.ReadBack.{ReadBack}
 
@@ -257,6 +257,8 @@ if-printed Distinct None P Q f p = p
 if-printed Distinct (Some b) P Q f p = f b p
 if-printed Bench None P Q f p = p
 if-printed Bench (Some b) P Q f p = p
+if-printed Check None P Q f p = p
+if-printed Check (Some b) P Q f p = p
 
 pub if-some : (job : Job) (back : Option ReadBack) (P : ReadBack → Type 0) → IfPrinted job back P → IfSome back P
 if-some Insert None P p = p
@@ -265,6 +267,8 @@ if-some Distinct None P p = absurd p
 if-some Distinct (Some b) P p = p
 if-some Bench None P p = p
 if-some Bench (Some b) P p = absurd p
+if-some Check None P p = p
+if-some Check (Some b) P p = absurd p
 
 pub read-into : (job : Job) (room result : Option ReadBack) (P : ReadBack → Type 0) (h : History) (ids : List ℕ) → IfPrinted job room P → ReadsInto h ids room result → IfPrinted job result (IsReadBy h ids)
 read-into Distinct (Some room) (Some back) P h ids p into = into
@@ -276,16 +280,15 @@ read-into Insert None None P h ids p into = tt
 read-into Bench (Some room) result P h ids p into = absurd p
 read-into Bench None (Some back) P h ids p into = absurd into
 read-into Bench None None P h ids p into = tt
+read-into Check (Some room) result P h ids p into = absurd p
+read-into Check None (Some back) P h ids p into = absurd into
+read-into Check None None P h ids p into = tt
 
-pub printed-some : (job : Job) (back : ReadBack) (P : ReadBack → Type 0) → IfPrinted job (Some back) P → (job ≡ Distinct) × P back
-printed-some Insert back P p = absurd p
-printed-some Distinct back P p = (refl, p)
-printed-some Bench back P p = absurd p
+pub printed-distinct : (job : Job) (back : ReadBack) (P : ReadBack → Type 0) → job ≡ Distinct → IfPrinted job (Some back) P → P back
+printed-distinct job back P is p = subst (λ (j : Job). IfPrinted j (Some back) P) is p
 
-pub printed-none : (job : Job) (P : ReadBack → Type 0) → IfPrinted job None P → job ≢ Distinct
-printed-none Insert P p e = cc e
-printed-none Distinct P p e = p
-printed-none Bench P p e = cc e
+pub distinct-printed : (job : Job) (P : ReadBack → Type 0) → job ≡ Distinct → IfPrinted job None P → ⊥
+distinct-printed job P is p = subst (λ (j : Job). IfPrinted j None P) is p
 
 -- callers have other numbers
 pub read-renamed : (f : ℕ → ℕ) (h : History) (back : ReadBack) → IsReadBack h back → IsReadBack (renamed f h) back

@@ -1,9 +1,9 @@
 -- From what the parts of a run leave to what is told of its end.
-use Rattle.std.proofs.Common.{◌≡◌, ◌≢◌, ◌<◌, ℕ, zero, suc, List, [], ◌∷◌, ◌+◌, Bool, true, false, cond, Option, Some, None, refl, sym, ap, ◌∙◌, subst, ⊎_elim, arith}
+use Rattle.std.proofs.Common.{◌≡◌, ◌≢◌, ◌<◌, ℕ, zero, suc, List, [], ◌∷◌, ◌+◌, Bool, true, false, cond, Option, Some, refl, sym, ap, ◌∙◌, subst, ⊎_elim, arith, take, length}
 use Rattle.std.proofs.lemmas.List.Sums.{sum_by-cons}
-use Rattle.std.specs.Prelude.{◌||◌, IfSome, Result, Ok, Err, count_by}
+use Rattle.std.specs.Prelude.{◌^◌, All, ◌||◌, ◌↔◌, drop, IfSome, Result, Ok, Err, count_by}
 use Rattle.std.specs.List.{list_any, range_with_len}
-use Rattle.std.specs.Io.KnownBytes.{Appends, IsAtEnd}
+use Rattle.std.specs.Io.KnownBytes.{Appends, Consumes, IsAtEnd}
 use Rattle.tdb_base.specs.Causes.{Rose}
 use Rattle.tdb_base.specs.Agrees.{Agrees}
 use Rattle.tdb_base.specs.History.{Vector, History}
@@ -11,45 +11,71 @@ use Rattle.tdb_base.specs.Replies.{is_full}
 use Rattle.tdb_base.specs.declared.reply.Reply.{Reply}
 use Rattle.tdb_base.specs.declared.reply.Status.{Status}
 use Rattle.tdb_base.specs.declared.reply.Status.TheVariants as s
+use Rattle.trace_csv.proofs.InputLemmas.{consumes-none}
+use Rattle.trace_csv.proofs.OneReportLemmas.{one-report}
+use Rattle.trace_csv.specs.Input.{limit}
+use Rattle.trace_csv.specs.OneReport.{HasWordId}
+use Rattle.trace_csv.specs.Report.{report, summary_of}
 use Rattle.trace_csv.specs.Output.{TakesFront}
+use Rattle.trace_csv.specs.Trace.{Unsigned, trace_of}
 use Rattle.trace_csv.specs.declared.report.Stats.{Stats}
-use Rattle.command_line.specs.declared.outcome.Job.{Job}
-use Rattle.command_line.specs.declared.outcome.Job.TheVariants.{Insert, Distinct, Bench}
+use Rattle.run_check.specs.Cut.{IsCut, IsWhole}
+use Rattle.run_check.specs.Text.{IsReportOf}
+use Rattle.run_check.specs.declared.verdict.Verdict.{Verdict}
+use Rattle.run_check.specs.declared.verdict.Verdict.TheVariants as v
+use Rattle.run_check.proofs.Verdicts.{least-same}
+use Rattle.command_line.specs.declared.outcome.Job.TheVariants.{Insert, Check}
 use Rattle.command_line.specs.declared.outcome.Choice.{Choice}
-use Rattle.treedb.specs.Lines.{IsTraceFor, is_reader, valid_lines}
+use Rattle.treedb.specs.Check.{HasTrace, IsWrongInput, Judged, PrintsVerdict, PrintsVerdictFront, WritesVerdict, ended_with_verdict, verdict_text}
+use Rattle.treedb.specs.Lines.{HasNoTrace, IsTraceFor, is_reader}
 use Rattle.treedb.specs.Note.{status_of}
-use Rattle.treedb.specs.Offered.{flag_count}
-use Rattle.treedb.specs.Outcome.{EndsAs, IsDetail, SinkStep, SourceStep}
-use Rattle.treedb.specs.Reading.{EndsReading, GaveWithin, IsRefusedFor, ReadsToEnd}
-use Rattle.treedb.specs.Run.{GivesWithin, IsOfMode, IsText, Prints, Run, is_printed, reads_to_end}
-use Rattle.treedb.specs.Writing.{WritesAnswers, WritesText, ended_with, ended_with_full, text_of}
+use Rattle.treedb.specs.Offered.{flag_count, is_check}
+use Rattle.treedb.specs.Outcome.{EndsAs, HasNoReport, IsDetail, SinkStep, SourceStep}
+use Rattle.treedb.specs.Reading.{EndsReading, GaveWithin, IsBadTrace, ReadsToEnd}
+use Rattle.treedb.specs.Run.{GivesWithin, IsOfMode, IsText, Prints, PrintsFront, Run, TellsOnly, is_printed, reads_to_end}
+use Rattle.treedb.specs.Writing.{WritesText, ended_with, ended_with_full}
 use Rattle.treedb.specs.declared.ended.Ended.{Ended}
 use Rattle.treedb.specs.declared.ended.Ended.TheVariants as e
+use Rattle.treedb.specs.declared.ended.Refusal.{Refusal}
 use Rattle.treedb.proofs.LineLemmas.{none_read}
+use Rattle.treedb.proofs.ReadingLemmas.{if_some}
 
--- what the source gave in reading is what it gave in the run
-pub gives : {T : Type 0} (old new : Option (List ℕ)) (result : Result T Ended) (status : Status) → GaveWithin old new result → (status ≡ s.TooMuch → result ≡ Err e.TooMuch) → (result ≡ Err e.TooMuch → status ≡ s.TooMuch) → GivesWithin old new status
-gives old new result status g there back = record {
-  gave = g.gave;
-  given = g.given;
-  too_much = (λ t. g.too_much.0 (there t), λ t. back (g.too_much.1 t));
-}
+-- bytes with a trace and a report have one trace and one text behind it
+same_cut : (c : Choice) (bytes : List ℕ) (trace other : List Vector) (report rest : List ℕ) → HasTrace c bytes trace report → HasTrace c bytes other rest
+    → (trace ≡ other) × (report ≡ rest)
+same_cut c bytes trace other report rest one two =
+    let place : one.cut.place ≡ two.cut.place = least-same (IsCut bytes) one.cut.place two.cut.place one.cut.first two.cut.first in
+    let text : one.text ≡ two.text = one.cut.text_is ∙ ap (λ (n : ℕ). take n bytes) place ∙ sym two.cut.text_is in
+    let lines : trace_of (Unsigned c.profile) two.text ≡ Ok trace = subst (λ (t : List ℕ). trace_of (Unsigned c.profile) t ≡ Ok trace) text one.lines in (
+      cc (lines, two.lines),
+      one.cut.report_is ∙ ap (λ (n : ℕ). drop (n + 2) bytes) place ∙ sym two.cut.report_is,
+    )
 
-module _ {S K : Type 0} (c : Choice) (left : S → Option (List ℕ)) (source_faults : S → ℕ) (taken : K → Option (List ℕ)) (sink_faults : K → ℕ) (settled : K → Bool) (source source' : S) (sink sink' : K) where
-  abbrev reads : SourceStep S
-  reads = record { left = left; faults = source_faults; old = source; new = source' }
+-- bytes that no line cuts have no report, nor have bytes with a wrong one
+whole_none : (c : Choice) (bytes : List ℕ) → IsWhole bytes → HasNoReport c bytes
+whole_none c bytes whole trace replies input = whole input.has_trace.cut.place input.has_trace.cut.first.holds
 
-  abbrev unwritten_sink : SinkStep K
-  unwritten_sink = record { taken = taken; faults = sink_faults; settled = settled; old = sink; new = sink }
+wrong_none : (c : Choice) (bytes : List ℕ) (line : ℕ) → IsWrongInput c bytes line → HasNoReport c bytes
+wrong_none c bytes line wrong trace replies input =
+    let same = same_cut c bytes trace wrong.trace input.report wrong.report input.has_trace wrong.has_trace in
+    wrong.wrong.none replies (subst (λ (t : List Vector). IsReportOf (length t) wrong.report replies) same.0
+    (subst (λ (r : List ℕ). IsReportOf (length trace) r replies) same.1 input.is_report))
 
+-- bytes whose trace is refused have no lines
+bad_none : (c : Choice) (refusal : Refusal) (bytes : List ℕ) → IsBadTrace c bytes refusal → HasNoTrace c bytes
+bad_none c refusal bytes bad = (bad.0, bad.1, none_read c bad.0 refusal bad.2)
+
+module _ {S K : Type 0} (c : Choice) (source : SourceStep S) (sink : SinkStep K) where
   -- a run that wrote nothing
-  quiet : (ended : Ended) → is_printed (status_of ended) ≡ false → status_of ended ≢ s.WriteFault → status_of ended ≢ s.Usage → (is_reader c.job ≡ false → source' ≡ source)
-      → (status_of ended ≡ s.ReadFault → Rose (source_faults source) (source_faults source')) → GivesWithin (left source) (left source') (status_of ended)
-      → (status_of ended ≡ s.BadTrace → IfSome (left source) (λ bytes. valid_lines c bytes ≡ None))
-      → (reads_to_end (status_of ended) ≡ true → is_reader c.job ≡ true → IsAtEnd (left source'))
-      → IsDetail (Some c) (left source) (taken sink) (taken sink) ended
-      → EndsAs (Some c) reads unwritten_sink ended
-  quiet ended silent unwritten taken_words drawn read gave bad at_end detail = record {
+  quiet : (ended : Ended) → is_printed (status_of ended) ≡ false → status_of ended ≢ s.WriteFault → status_of ended ≢ s.Usage → sink.new ≡ sink.old
+      → (is_reader c.job ≡ false → source.new ≡ source.old)
+      → (status_of ended ≡ s.ReadFault → Rose (source.faults source.old) (source.faults source.new))
+      → GivesWithin (source.left source.old) (source.left source.new) (status_of ended)
+      → (status_of ended ≡ s.BadTrace → IfSome (source.left source.old) (λ bytes. HasNoTrace c bytes))
+      → (status_of ended ≡ s.BadReport → (c.job ≡ Check) × IfSome (source.left source.old) (HasNoReport c))
+      → (reads_to_end (status_of ended) ≡ true → is_reader c.job ≡ true → IsAtEnd (source.left source.new))
+      → IsDetail (Some c) (source.left source.old) (sink.taken sink.old) (sink.taken sink.new) ended → EndsAs (Some c) source sink ended
+  quiet ended silent unwritten taken_words same drawn read gave bad no_report at_end detail = record {
     outcome = record {
       usage = λ u. absurd (taken_words u);
       refused_words = λ n. cc n;
@@ -58,47 +84,89 @@ module _ {S K : Type 0} (c : Choice) (left : S → Option (List ℕ)) (source_fa
       read_fault = read;
       gave = gave;
       bad_trace = bad;
+      bad_report = no_report;
       write_fault = λ w. absurd (unwritten w);
-      untouched = λ a b. refl;
+      untouched = λ a b. same;
       front = λ w. absurd (unwritten w);
+      verdict_front = λ w. absurd (unwritten w);
       end = at_end;
       settled = λ p. cc (p, silent);
       replies_form_one_history = λ p. cc (p, silent);
+      verdict = λ p. cc (p, silent);
     };
     detail = detail;
   }
 
-  -- a run that has no lines
-  pub stopped : {T : Type 0} (ended : Ended) (result : Result T Ended) → result ≡ Err ended → EndsReading c (left source) ended → GaveWithin (left source) (left source') result
-      → (result ≡ Err e.ReadFault → Rose (source_faults source) (source_faults source')) → (ReadsToEnd result → is_reader c.job ≡ true → IsAtEnd (left source'))
-      → (is_reader c.job ≡ false → source' ≡ source) → EndsAs (Some c) reads unwritten_sink ended
-  stopped (e.BadTrace refusal) result is ends gave fault at_end drawn =
-      quiet (e.BadTrace refusal) refl (λ w. cc w) (λ u. cc u) drawn (λ r. cc r) (gives (left source) (left source') result s.BadTrace gave (λ t. cc t) (λ t. cc (t, is)))
-      (λ b. invalid (left source) ends.0) (λ t. at_end (subst (λ (r : Result _ Ended). ReadsToEnd r) (sym is) tt)) (told (left source) ends.0)
+  -- what reading its input leaves of a run that has one
+  pub record HasInput : Type 0 where
+    pub within : (status : Status) → status ≢ s.TooMuch → GivesWithin (source.left source.old) (source.left source.new) status
+    pub at_end : is_reader c.job ≡ true → IsAtEnd (source.left source.new)
+    pub drawn : is_reader c.job ≡ false → source.new ≡ source.old
+
+  -- what the source gave in reading is what it gave in the run
+  gives : {T : Type 0} (result : Result T Ended) (status : Status) → GaveWithin (source.left source.old) (source.left source.new) result
+      → (status ≡ s.TooMuch → result ≡ Err e.TooMuch) → (result ≡ Err e.TooMuch → status ≡ s.TooMuch) → GivesWithin (source.left source.old) (source.left source.new) status
+  gives result status g there back = record {
+    gave = g.gave;
+    given = g.given;
+    too_much = (λ t. g.too_much.0 (there t), λ t. back (g.too_much.1 t));
+  }
+
+  pub has_read : {T : Type 0} (input : T) (result : Result T Ended) → result ≡ Ok input → GaveWithin (source.left source.old) (source.left source.new) result
+      → IsAtEnd (source.left source.new) → is_reader c.job ≡ true → HasInput
+  has_read input result is gave end reads = record {
+    within = λ status other. gives result status gave (λ t. absurd (other t)) (λ t. cc (t, is));
+    at_end = λ r. end;
+    drawn = λ r. cc (r, reads);
+  }
+
+  pub has_drawn : source.new ≡ source.old → is_reader c.job ≡ false → HasInput
+  has_drawn unread draws = record {
+    within = λ status other. record {
+      gave = [];
+      given = subst (λ (x : S). Consumes (source.left source.old) (source.left x) []) (sym unread) (consumes-none (source.left source.old));
+      too_much = (λ t. absurd (other t), λ (less : limit < 0). absurd (omega (arith, less)));
+    };
+    at_end = λ r. cc (r, draws);
+    drawn = λ r. unread;
+  }
+
+  -- a run whose input is refused, or can't be had
+  pub stopped : {T : Type 0} (ended : Ended) (result : Result T Ended) → result ≡ Err ended → sink.new ≡ sink.old → is_reader c.job ≡ true
+      → EndsReading c (source.left source.old) ended → GaveWithin (source.left source.old) (source.left source.new) result
+      → (result ≡ Err e.ReadFault → Rose (source.faults source.old) (source.faults source.new)) → (ReadsToEnd result → IsAtEnd (source.left source.new)) → EndsAs (Some c) source sink ended
+  stopped {T = T} ended result is same reads ends gave fault at_end = by ended is ends
     where
-      invalid : (o : Option (List ℕ)) → IfSome o (λ bytes. IsRefusedFor c bytes refusal) → IfSome o (λ bytes. valid_lines c bytes ≡ None)
-      invalid None h = h
-      invalid (Some bytes) h = rw ends.1 (none_read c bytes refusal h)
+      drawn : is_reader c.job ≡ false → source.new ≡ source.old
+      drawn no_reader = cc (no_reader, reads)
 
-      told : (o : Option (List ℕ)) → IfSome o (λ bytes. IsRefusedFor c bytes refusal) → IfSome o (λ bytes. (d : Choice) × (Some c ≡ Some d) × IsRefusedFor d bytes refusal)
-      told None h = h
-      told (Some bytes) h = (c, refl, h)
-  stopped e.NoMemory result is ends gave fault at_end drawn =
-      quiet e.NoMemory refl (λ w. cc w) (λ u. cc u) drawn (λ r. cc r) (gives (left source) (left source') result s.NoMemory gave (λ t. cc t) (λ t. cc (t, is))) (λ b. cc b) (λ t. cc t) tt
-  stopped e.TooMuch result is ends gave fault at_end drawn =
-      quiet e.TooMuch refl (λ w. cc w) (λ u. cc u) drawn (λ r. cc r) (gives (left source) (left source') result s.TooMuch gave (λ t. is) (λ t. refl)) (λ b. cc b) (λ t. cc t) tt
-  stopped e.ReadFault result is ends gave fault at_end drawn =
-      quiet e.ReadFault refl (λ w. cc w) (λ u. cc u) drawn (λ r. fault is) (gives (left source) (left source') result s.ReadFault gave (λ t. cc t) (λ t. cc (t, is))) (λ b. cc b) (λ t. cc t) tt
-  stopped e.Done result is ends gave fault at_end drawn = absurd ends
-  stopped e.Usage result is ends gave fault at_end drawn = absurd ends
-  stopped (e.Full n) result is ends gave fault at_end drawn = absurd ends
-  stopped e.WriteFault result is ends gave fault at_end drawn = absurd ends
+      by : (ended : Ended) → result ≡ Err ended → EndsReading c (source.left source.old) ended → EndsAs (Some c) source sink ended
+      by (e.BadTrace refusal) is ends =
+          quiet (e.BadTrace refusal) refl (λ w. cc w) (λ u. cc u) same drawn (λ r. cc r) (gives result s.BadTrace gave (λ t. cc t) (λ t. cc (t, is)))
+          (λ b. if_some (source.left source.old) (bad_none c refusal) ends) (λ b. cc b) (λ t r. at_end (subst (λ (x : Result T Ended). ReadsToEnd x) (sym is) tt)) ends
+      by e.NoReport is ends =
+          quiet e.NoReport refl (λ w. cc w) (λ u. cc u) same drawn (λ r. cc r) (gives result s.BadReport gave (λ t. cc t) (λ t. cc (t, is)))
+          (λ b. cc b) (λ b. (ends.0, if_some (source.left source.old) (whole_none c) ends.1)) (λ t r. at_end (subst (λ (x : Result T Ended). ReadsToEnd x) (sym is) tt)) ends
+      by (e.WrongReport line) is ends =
+          quiet (e.WrongReport line) refl (λ w. cc w) (λ u. cc u) same drawn (λ r. cc r) (gives result s.BadReport gave (λ t. cc t) (λ t. cc (t, is)))
+          (λ b. cc b) (λ b. (ends.0, if_some (source.left source.old) (λ bytes wrong. wrong_none c bytes line wrong) ends.1))
+          (λ t r. at_end (subst (λ (x : Result T Ended). ReadsToEnd x) (sym is) tt)) ends
+      by e.NoMemory is ends =
+          quiet e.NoMemory refl (λ w. cc w) (λ u. cc u) same drawn (λ r. cc r) (gives result s.NoMemory gave (λ t. cc t) (λ t. cc (t, is))) (λ b. cc b) (λ b. cc b) (λ t. cc t) tt
+      by e.TooMuch is ends =
+          quiet e.TooMuch refl (λ w. cc w) (λ u. cc u) same drawn (λ r. cc r) (gives result s.TooMuch gave (λ t. is) (λ t. refl)) (λ b. cc b) (λ b. cc b) (λ t. cc t) tt
+      by e.ReadFault is ends =
+          quiet e.ReadFault refl (λ w. cc w) (λ u. cc u) same drawn (λ r. fault is) (gives result s.ReadFault gave (λ t. cc t) (λ t. cc (t, is))) (λ b. cc b) (λ b. cc b) (λ t. cc t) tt
+      by e.Done is ends = absurd ends
+      by e.Usage is ends = absurd ends
+      by (e.Full n) is ends = absurd ends
+      by e.WriteFault is ends = absurd ends
+      by e.Refuted is ends = absurd ends
 
-  -- a run that has lines, and no memory for more
-  pub out_of_memory : {T : Type 0} (lines : T) (result : Result T Ended) → result ≡ Ok lines → GaveWithin (left source) (left source') result
-      → (is_reader c.job ≡ false → source' ≡ source) → EndsAs (Some c) reads unwritten_sink e.NoMemory
-  out_of_memory lines result is gave drawn =
-      quiet e.NoMemory refl (λ w. cc w) (λ u. cc u) drawn (λ r. cc r) (gives (left source) (left source') result s.NoMemory gave (λ t. cc t) (λ t. cc (t, is))) (λ b. cc b) (λ t. cc t) tt
+  -- a run that has an input, and no memory for more
+  pub out_of_memory : HasInput → sink.new ≡ sink.old → EndsAs (Some c) source sink e.NoMemory
+  out_of_memory input same =
+      quiet e.NoMemory refl (λ w. cc w) (λ u. cc u) same input.drawn (λ r. cc r) (input.within s.NoMemory (λ t. cc t)) (λ b. cc b) (λ b. cc b) (λ t. cc t) tt
 
 -- lines are full where their count is not 0
 any_full : (replies : List Reply) → (count_by is_full replies ≡ 0 → list_any is_full replies ≡ false) × ((n : ℕ) → count_by is_full replies ≡ suc n → list_any is_full replies ≡ true)
@@ -115,108 +183,180 @@ any_full (x ∷ replies) = by (is_full x) refl (any_full replies)
         let same = count ∙ ap (λ (b : Bool). cond b 1 0 + count_by is_full replies) t in
         (λ z. rw t (rest.0 (omega (arith, z, same))), λ n e. rw t (rest.1 n (omega (arith, e, same))))
 
--- the text of replies is that of a job which prints them
-is_text : (job : Job) (replies : List Reply) (h : History) (stats : Option Stats) → job ≢ Distinct → IsText job replies h stats (text_of job replies stats)
-is_text Insert replies h stats other = refl
-is_text Distinct replies h stats other = absurd (other refl)
-is_text Bench replies h stats other = refl
+-- the report of some replies is that of no others
+pub tells_only : (replies : List Reply) (stats : Option Stats) → All HasWordId replies → length replies < 2 ^ 64 → TellsOnly Insert replies (report replies (summary_of replies stats))
+tells_only replies stats fit few others summary fits less same = sym (one-report replies others (summary_of replies stats) summary fit fits few less same)
 
-module _ {S K : Type 0} (c : Choice) (left : S → Option (List ℕ)) (source_faults : S → ℕ) (taken : K → Option (List ℕ)) (sink_faults : K → ℕ) (settled : K → Bool) (source source' : S) (sink sink' : K) (some : 0 < c.workers)
-    {T : Type 0} (lines : T) (result : Result T Ended) (is : result ≡ Ok lines) (gave : GaveWithin (left source) (left source') result)
-    (at_end : is_reader c.job ≡ true → IsAtEnd (left source')) (drawn : is_reader c.job ≡ false → source' ≡ source)
-    (trace : List Vector) (replies : List Reply) (history : History) (stats : Option Stats) (told : IsTraceFor c (left source) c.job trace)
-    (agrees : Agrees (flag_count c.profile) trace replies c.workers c.block [] history (range_with_len 0 c.workers)) (of_mode : IsOfMode c.mode c trace replies history stats) where
-  abbrev reads_from : SourceStep S
-  reads_from = record { left = left; faults = source_faults; old = source; new = source' }
+-- the run of some lines that were read or drawn
+pub record HasLines (c : Choice) (told : Option (List ℕ)) (trace : List Vector) (replies : List Reply) (stats : Option Stats) (history : History) : Type 0 where
+  pub inserts : is_check c.job ≡ false
+  pub some : 0 < c.workers
+  pub read : IsTraceFor c told c.job trace
+  pub agrees : Agrees (flag_count c.profile) trace replies c.workers c.block [] history (range_with_len 0 c.workers)
+  pub of_mode : IsOfMode c.mode c trace replies history stats
 
-  abbrev writes_to : SinkStep K
-  writes_to = record { taken = taken; faults = sink_faults; settled = settled; old = sink; new = sink' }
-
-  run_of : Run (Some c) (left source)
-  run_of = record { choice = c; trace = trace; replies = replies; history = history; stats = stats; chose = refl; some = some; read = told; agrees = agrees; of_mode = of_mode }
-
-  within : (status : Status) → status ≢ s.TooMuch → GivesWithin (left source) (left source') status
-  within status other = gives (left source) (left source') result status gave (λ t. absurd (other t)) (λ t. cc (t, is))
-
+module _ {S K : Type 0} (c : Choice) (source : SourceStep S) (sink : SinkStep K) (input : HasInput c source sink) where
   -- a run that wrote its whole text
-  whole : (ended : Ended) (text : List ℕ) → IsText c.job replies history stats text → Appends (taken sink) (taken sink') text → (n : ℕ) → count_by is_full replies ≡ n → ended ≡ ended_with_full n → settled sink' ≡ true
-      → EndsAs (Some c) reads_from writes_to ended
-  unfolding run_of
-  whole ended text writes appends zero count ends settles = subst (λ (x : Ended). EndsAs (Some c) reads_from writes_to x) (sym ends) (record {
+  printed_end : (ended : Ended) → is_printed (status_of ended) ≡ true
+      → (is_check c.job ≡ false → Prints (Some c) (source.left source.old) (sink.taken sink.old) (sink.taken sink.new) (status_of ended))
+      → (is_check c.job ≡ true → PrintsVerdict c (source.left source.old) (sink.taken sink.old) (sink.taken sink.new) (status_of ended))
+      → sink.settled sink.new ≡ true → IsDetail (Some c) (source.left source.old) (sink.taken sink.old) (sink.taken sink.new) ended → EndsAs (Some c) source sink ended
+  printed_end ended printed replies verdict settles detail = record {
     outcome = record {
-      usage = λ u. cc u;
+      usage = λ u. absurd (other s.Usage u refl);
       refused_words = λ n. cc n;
-      unread = λ u. cc u;
-      drawn = drawn;
-      read_fault = λ r. cc r;
-      gave = within s.Done (λ t. cc t);
-      bad_trace = λ b. cc b;
-      write_fault = λ w. cc w;
-      untouched = λ a b. cc a;
-      front = λ w. cc w;
-      end = λ t. at_end;
+      unread = λ u. absurd (other s.Usage u refl);
+      drawn = input.drawn;
+      read_fault = λ r. absurd (other s.ReadFault r refl);
+      gave = input.within (status_of ended) (λ t. other s.TooMuch t refl);
+      bad_trace = λ b. absurd (other s.BadTrace b refl);
+      bad_report = λ b. absurd (other s.BadReport b refl);
+      write_fault = λ w. absurd (other s.WriteFault w refl);
+      untouched = λ a b. cc (a, printed);
+      front = λ w. absurd (other s.WriteFault w refl);
+      verdict_front = λ w. absurd (other s.WriteFault w refl);
+      end = λ t. input.at_end;
       settled = λ p. settles;
-      replies_form_one_history = λ p. record { run = run_of; text = text; is_text = writes; taken = appends; full = (λ f. cc f, λ f. let none = (any_full replies).0 count in cc (f, none)) };
+      replies_form_one_history = λ p. replies;
+      verdict = λ p. verdict;
     };
-    detail = tt;
-  })
-  whole ended text writes appends (suc n) count ends settles = subst (λ (x : Ended). EndsAs (Some c) reads_from writes_to x) (sym ends) (
-      let printed : Prints (Some c) (left source) (taken sink) (taken sink') s.Full = record { run = run_of; text = text; is_text = writes; taken = appends; full = (λ f. (any_full replies).1 n count, λ f. refl) } in
-      record {
-        outcome = record {
-          usage = λ u. cc u;
-          refused_words = λ n. cc n;
-          unread = λ u. cc u;
-          drawn = drawn;
-          read_fault = λ r. cc r;
-          gave = within s.Full (λ t. cc t);
-          bad_trace = λ b. cc b;
-          write_fault = λ w. cc w;
-          untouched = λ a b. cc a;
-          front = λ w. cc w;
-          end = λ t. at_end;
-          settled = λ p. settles;
-          replies_form_one_history = λ p. printed;
-        };
-        detail = (printed, count);
-      })
+    detail = detail;
+  }
+    where
+      other : (status : Status) → status_of ended ≡ status → is_printed status ≡ false → ⊥
+      other status is silent = (let same = ap is_printed is in cc (same, printed, silent))
 
   -- a run that wrote a front of its text
-  broken : (ended : Ended) (text : List ℕ) → IsText c.job replies history stats text → TakesFront (taken sink) (taken sink') text → ended ≡ e.WriteFault → Rose (sink_faults sink) (sink_faults sink')
-      → EndsAs (Some c) reads_from writes_to ended
-  unfolding run_of
-  broken ended text writes front ends rose = subst (λ (x : Ended). EndsAs (Some c) reads_from writes_to x) (sym ends) (record {
+  broken_end : (is_check c.job ≡ false → PrintsFront (Some c) (source.left source.old) (sink.taken sink.old) (sink.taken sink.new))
+      → (is_check c.job ≡ true → PrintsVerdictFront c (source.left source.old) (sink.taken sink.old) (sink.taken sink.new))
+      → Rose (sink.faults sink.old) (sink.faults sink.new) → EndsAs (Some c) source sink e.WriteFault
+  broken_end replies verdict rose = record {
     outcome = record {
       usage = λ u. cc u;
       refused_words = λ n. cc n;
       unread = λ u. cc u;
-      drawn = drawn;
+      drawn = input.drawn;
       read_fault = λ r. cc r;
-      gave = within s.WriteFault (λ t. cc t);
+      gave = input.within s.WriteFault (λ t. cc t);
       bad_trace = λ b. cc b;
+      bad_report = λ b. cc b;
       write_fault = λ w. rose;
       untouched = λ a b. absurd (b refl);
-      front = λ w. record { run = run_of; text = text; is_text = writes; taken = front };
-      end = λ t. at_end;
+      front = λ w. replies;
+      verdict_front = λ w. verdict;
+      end = λ t. input.at_end;
       settled = λ p. cc p;
       replies_form_one_history = λ p. cc p;
+      verdict = λ p. cc p;
     };
     detail = tt;
-  })
+  }
 
-  pub written_text : (ended : Ended) (text : List ℕ) → IsText c.job replies history stats text → WritesText text replies (taken sink) (taken sink') ended
-      → (ended ≢ e.WriteFault → settled sink' ≡ true) → (ended ≡ e.WriteFault → Rose (sink_faults sink) (sink_faults sink'))
-      → EndsAs (Some c) reads_from writes_to ended
-  written_text ended text is writes settles fault = ⊎_elim
-      (λ (w : Appends (taken sink) (taken sink') text × (ended ≡ ended_with replies)).
-      whole ended text is w.0 (count_by is_full replies) refl w.1 (settles (λ x. with_no_fault (count_by is_full replies) (sym w.1 ∙ x))))
-      (λ (w : TakesFront (taken sink) (taken sink') text × (ended ≡ e.WriteFault)). broken ended text is w.0 w.1 (fault w.1))
-      writes
-    where
-      with_no_fault : (n : ℕ) → ended_with_full n ≡ e.WriteFault → ⊥
-      with_no_fault zero x = cc x
-      with_no_fault (suc n) x = cc x
+  module _ (trace : List Vector) (replies : List Reply) (stats : Option Stats) (history : History) (lines : HasLines c (source.left source.old) trace replies stats history)
+      (text : List ℕ) (writes : IsText c.job replies history stats text) where
+    run_of : Run (Some c) (source.left source.old)
+    run_of = record {
+      choice = c;
+      trace = trace;
+      replies = replies;
+      history = history;
+      stats = stats;
+      chose = refl;
+      some = lines.some;
+      read = lines.read;
+      agrees = lines.agrees;
+      of_mode = lines.of_mode;
+    }
 
-  pub written : (ended : Ended) → c.job ≢ Distinct → WritesAnswers c.job replies stats (taken sink) (taken sink') ended → (ended ≢ e.WriteFault → settled sink' ≡ true) → (ended ≡ e.WriteFault → Rose (sink_faults sink) (sink_faults sink'))
-      → EndsAs (Some c) reads_from writes_to ended
-  written ended other writes settles fault = written_text ended (text_of c.job replies stats) (is_text c.job replies history stats other) writes settles fault
+    inserts : is_check c.job ≡ true → ⊥
+    inserts checks = let other = lines.inserts in cc (checks, other)
+
+    whole : Appends (sink.taken sink.old) (sink.taken sink.new) text → TellsOnly c.job replies text → sink.settled sink.new ≡ true
+        → (n : ℕ) → count_by is_full replies ≡ n → EndsAs (Some c) source sink (ended_with_full n)
+    unfolding run_of
+    whole appends only settles zero count =
+        printed_end e.Done refl (λ other. record {
+          run = run_of;
+          text = text;
+          is_text = writes;
+          taken = appends;
+          only = only;
+          full = (λ f. cc f, λ f. let none = (any_full replies).0 count in cc (f, none));
+          never_refuted = λ r. cc r;
+        })
+        (λ checks. absurd (inserts checks)) settles tt
+    whole appends only settles (suc n) count =
+        let printed : Prints (Some c) (source.left source.old) (sink.taken sink.old) (sink.taken sink.new) s.Full = record {
+          run = run_of;
+          text = text;
+          is_text = writes;
+          taken = appends;
+          only = only;
+          full = (λ f. (any_full replies).1 n count, λ f. refl);
+          never_refuted = λ r. cc r;
+        } in
+        printed_end (e.Full (suc n)) refl (λ other. printed) (λ checks. absurd (inserts checks)) settles (printed, count)
+
+    with_no_fault : (n : ℕ) → ended_with_full n ≡ e.WriteFault → ⊥
+    with_no_fault zero x = cc x
+    with_no_fault (suc n) x = cc x
+
+    pub written : (ended : Ended) → WritesText text replies (sink.taken sink.old) (sink.taken sink.new) ended → (ended ≢ e.WriteFault → TellsOnly c.job replies text)
+        → (ended ≢ e.WriteFault → sink.settled sink.new ≡ true) → (ended ≡ e.WriteFault → Rose (sink.faults sink.old) (sink.faults sink.new)) → EndsAs (Some c) source sink ended
+    unfolding run_of
+    written ended wrote only settles fault = ⊎_elim
+        (λ (w : Appends (sink.taken sink.old) (sink.taken sink.new) text × (ended ≡ ended_with replies)).
+        (let calm : ended ≢ e.WriteFault = λ x. with_no_fault (count_by is_full replies) (sym w.1 ∙ x) in
+        subst (λ (x : Ended). EndsAs (Some c) source sink x) (sym w.1) (whole w.0 (only calm) (settles calm) (count_by is_full replies) refl)))
+        (λ (w : TakesFront (sink.taken sink.old) (sink.taken sink.new) text × (ended ≡ e.WriteFault)).
+        subst (λ (x : Ended). EndsAs (Some c) source sink x) (sym w.1)
+        (broken_end (λ other. record { run = run_of; text = text; is_text = writes; taken = w.0 }) (λ checks. absurd (inserts checks)) (fault w.1)))
+        wrote
+
+  module _ (checks : is_check c.job ≡ true) (verdict : Verdict) (judged : Judged c (source.left source.old) verdict) where
+    others : is_check c.job ≡ false → ⊥
+    others inserts = cc (checks, inserts)
+
+    -- a verdict's end is one of two, and `Done` is the one of `yes`
+    by_verdict : (P : Ended → Type 0) → P e.Done → P e.Refuted → (verdict : Verdict) → P (ended_with_verdict verdict)
+    by_verdict P done refuted v.Yes = done
+    by_verdict P done refuted (v.Twice a b) = refuted
+    by_verdict P done refuted (v.Lone a) = refuted
+    by_verdict P done refuted (v.FullNamed a) = refuted
+    by_verdict P done refuted (v.Stuck a) = refuted
+
+    done_where_yes : (verdict : Verdict) → (status_of (ended_with_verdict verdict) ≡ s.Done) ↔ (verdict ≡ v.Yes)
+    done_where_yes v.Yes = (λ d. refl, λ y. refl)
+    done_where_yes (v.Twice a b) = (λ d. cc d, λ y. cc y)
+    done_where_yes (v.Lone a) = (λ d. cc d, λ y. cc y)
+    done_where_yes (v.FullNamed a) = (λ d. cc d, λ y. cc y)
+    done_where_yes (v.Stuck a) = (λ d. cc d, λ y. cc y)
+
+    prints : Appends (sink.taken sink.old) (sink.taken sink.new) (verdict_text verdict)
+        → PrintsVerdict c (source.left source.old) (sink.taken sink.old) (sink.taken sink.new) (status_of (ended_with_verdict verdict))
+    prints appends =
+        let yes = judged.yes (flag_count c.profile) in
+        let done = done_where_yes verdict in
+        record { verdict = verdict; judged = judged; taken = appends; status_is = refl; history = (λ d. yes.0 (done.0 d), λ h. done.1 (yes.1 h)) }
+
+    Printed : Ended → Type 0
+    Printed ended = PrintsVerdict c (source.left source.old) (sink.taken sink.old) (sink.taken sink.new) (status_of ended) → sink.settled sink.new ≡ true → EndsAs (Some c) source sink ended
+
+    said : Printed (ended_with_verdict verdict)
+    unfolding Printed
+    said = by_verdict Printed (λ printed settles. printed_end e.Done refl (λ inserts. absurd (others inserts)) (λ same. printed) settles tt)
+        (λ printed settles. printed_end e.Refuted refl (λ inserts. absurd (others inserts)) (λ same. printed) settles tt) verdict
+
+    calm_verdict : (verdict : Verdict) → ended_with_verdict verdict ≢ e.WriteFault
+    calm_verdict = by_verdict (λ ended. ended ≢ e.WriteFault) (λ w. cc w) (λ w. cc w)
+
+    pub verdict_written : (ended : Ended) → WritesVerdict verdict (sink.taken sink.old) (sink.taken sink.new) ended → (ended ≢ e.WriteFault → sink.settled sink.new ≡ true)
+        → (ended ≡ e.WriteFault → Rose (sink.faults sink.old) (sink.faults sink.new)) → EndsAs (Some c) source sink ended
+    unfolding Printed
+    verdict_written ended wrote settles fault = ⊎_elim
+        (λ (w : Appends (sink.taken sink.old) (sink.taken sink.new) (verdict_text verdict) × (ended ≡ ended_with_verdict verdict)).
+        subst (λ (x : Ended). EndsAs (Some c) source sink x) (sym w.1) (said (prints w.0) (settles (λ x. calm_verdict verdict (sym w.1 ∙ x)))))
+        (λ (w : TakesFront (sink.taken sink.old) (sink.taken sink.new) (verdict_text verdict) × (ended ≡ e.WriteFault)).
+        subst (λ (x : Ended). EndsAs (Some c) source sink x) (sym w.1)
+        (broken_end (λ inserts. absurd (others inserts)) (λ same. record { verdict = verdict; judged = judged; taken = w.0 }) (fault w.1)))
+        wrote

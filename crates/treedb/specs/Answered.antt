@@ -12,10 +12,10 @@ use Rattle.trace_csv.specs.declared.report.Stats.{Stats}
 use Rattle.command_line.specs.Sizes.{AreTableSizes}
 use Rattle.command_line.specs.declared.outcome.Choice.{Choice}
 use Rattle.command_line.specs.declared.table.TableSizes.{TableSizes}
-use Rattle.treedb.specs.declared.plain.Answered.{Answered}
+use Rattle.treedb.specs.declared.store.Answered.{Answered}
 use Rattle.treedb.specs.Offered.{flag_count}
 use Rattle.treedb.specs.ReadBack.{IfPrinted, IsReadBack}
-use Rattle.treedb.specs.Stored.{InStore}
+use Rattle.treedb.specs.Run.{IsOfMode}
 
 -- the sizes of a store are those of a choice, for so many lines of so many slots
 pub record AreSizesOf (c : Choice) (slots lines : ℕ) (store : Sizes) : Type 0 where
@@ -32,11 +32,11 @@ pub record CountsOf (about : About) (v : View Roots) (stats : Stats) : Type 0 wh
   pub stored : stats.stored ≡ 8 * length v.made + 8 * names_of_callers v.numbers v.seen
   pub raw : stats.raw ≡ 4 * about.slots * names_of_callers v.numbers v.seen
 
--- the replies to the lines form one history of workers who are numbered from 0, a plain store stands behind
--- them, and where the job prints vectors the named ones were read back
+-- the replies to the lines form one history of workers who are numbered from 0, what the mode keeps stands
+-- behind them, and where the job prints vectors the named ones were read back
 pub record AreAnswered (c : Choice) (trace : List Vector) (answered : Answered) : Type 0 where
   pub history : History
   pub agrees : Agrees (flag_count c.profile) trace answered.replies.items c.workers c.block [] history
       (range_with_len 0 c.workers)
-  pub in_store : InStore c trace answered.replies.items history answered.stats
+  pub of_mode : IsOfMode c.mode c trace answered.replies.items history answered.stats
   pub vectors : IfPrinted c.job answered.vectors (IsReadBack history)

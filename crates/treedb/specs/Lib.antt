@@ -1,5 +1,6 @@
 pub mod Offered
 pub mod Lines
+pub mod Check
 pub mod Pairs
 pub mod Stored
 pub mod ReadBack

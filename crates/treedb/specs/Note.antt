@@ -1,5 +1,5 @@
 -- How a run ends: its status, and the note line that tells of it.
-use Rattle.std.specs.Prelude.{ℕ, List, [], ◌++◌, codes}
+use Rattle.std.specs.Prelude.{ℕ, Bool, true, false, List, [], ◌++◌, codes}
 use Rattle.std.specs.Fmt.{decimal}
 use Rattle.tdb_base.specs.declared.reply.Status.{Status}
 use Rattle.tdb_base.specs.declared.reply.Status.TheVariants as s
@@ -20,11 +20,27 @@ status_of (e.Full lines) = s.Full
 status_of e.ReadFault = s.ReadFault
 status_of e.WriteFault = s.WriteFault
 status_of e.NoMemory = s.NoMemory
+status_of e.NoReport = s.BadReport
+status_of (e.WrongReport line) = s.BadReport
+status_of e.Refuted = s.Refuted
+
+-- the end has a note: `Done` and `Refuted` have none
+abbrev pub has_note : Status → Bool
+has_note s.Done = false
+has_note s.Refuted = false
+has_note s.Usage = true
+has_note s.BadTrace = true
+has_note s.TooMuch = true
+has_note s.Full = true
+has_note s.ReadFault = true
+has_note s.WriteFault = true
+has_note s.NoMemory = true
+has_note s.BadReport = true
 
 -- how the words of the command line are written
 unfoldable pub usage : List ℕ
 usage =
-    codes "usage: treedb insert|distinct|bench [--mode plain|compact] [--profile 16|28|31]\n"
+    codes "usage: treedb insert|distinct|bench|check [--mode plain|compact] [--profile 16|28|31]\n"
     ++ codes "  [--workers N] [--block N] [--nodes D] [--roots R] [--region S] [--probe P]\n"
     ++ codes "  [--stats] [--lines N] [--slots K] [--values M] [--seed S]\n"
 
@@ -61,3 +77,6 @@ note_text (e.Full lines) = codes "treedb: " ++ decimal lines ++ codes " lines fu
 note_text e.ReadFault = codes "treedb: read fault\n"
 note_text e.WriteFault = codes "treedb: write fault\n"
 note_text e.NoMemory = no_memory
+note_text e.NoReport = codes "treedb: no report\n"
+note_text (e.WrongReport line) = codes "treedb: report line " ++ decimal line ++ codes " is wrong\n"
+note_text e.Refuted = []

@@ -1,24 +1,30 @@
 -- All that is told of a run's end.
-use Rattle.std.specs.Prelude.{◌≡◌, ◌≢◌, ◌⊎◌, ℕ, Bool, true, false, List, Option, Some, None, IfSome, count_by}
+use Rattle.std.specs.Prelude.{◌≡◌, ◌≢◌, ◌⊎◌, ℕ, Bool, true, false, List, Option, None, IfSome, count_by}
 use Rattle.std.specs.Io.KnownBytes.{Appends, IsAtEnd}
 use Rattle.tdb_base.specs.Causes.{Rose}
+use Rattle.tdb_base.specs.History.{Vector}
 use Rattle.tdb_base.specs.Replies.{is_full}
+use Rattle.tdb_base.specs.declared.reply.Reply.{Reply}
 use Rattle.tdb_base.specs.declared.reply.Status.{Status}
 use Rattle.tdb_base.specs.declared.reply.Status.TheVariants as s
 use Rattle.command_line.specs.declared.outcome.Choice.{Choice}
-use Rattle.treedb.specs.Lines.{is_reader}
+use Rattle.command_line.specs.declared.outcome.Job.TheVariants.{Check}
+use Rattle.treedb.specs.Check.{IsInput, PrintsVerdict, PrintsVerdictFront}
+use Rattle.treedb.specs.Lines.{HasNoTrace, is_reader}
+use Rattle.treedb.specs.Offered.{is_check}
 use Rattle.trace_csv.specs.Output.{TakesFront}
-use Rattle.treedb.specs.Note.{note_text, status_of}
-use Rattle.treedb.specs.Reading.{IsRefusedFor}
+use Rattle.treedb.specs.Note.{has_note, note_text, status_of}
+use Rattle.treedb.specs.Reading.{EndsReading}
 use Rattle.treedb.specs.Run.{GivesWithin, Headline, OfPrinted, Prints, PrintsFront, is_printed, reads_to_end}
-use Rattle.treedb.specs.Run.{valid_input}
 use Rattle.treedb.specs.declared.ended.Ended.{Ended}
 use Rattle.treedb.specs.declared.ended.Ended.TheVariants as e
 
--- what is told beside the status: why the bytes are refused, and how many lines are full
+-- what is told beside the status: why the input is refused, and how many lines are full
 abbrev pub IsDetail : (offer : Option Choice) (told old new : Option (List ℕ)) → Ended → Type 0
-IsDetail offer told old new (e.BadTrace refusal) =
-    IfSome told (λ bytes. (c : Choice) × (offer ≡ Some c) × IsRefusedFor c bytes refusal)
+IsDetail offer told old new (e.BadTrace refusal) = IfSome offer (λ c. EndsReading c told (e.BadTrace refusal))
+IsDetail offer told old new e.NoReport = IfSome offer (λ c. EndsReading c told e.NoReport)
+IsDetail offer told old new (e.WrongReport line) = IfSome offer (λ c. EndsReading c told (e.WrongReport line))
+IsDetail offer told old new e.Refuted = Unit {0}
 IsDetail offer told old new (e.Full lines) = (printed : Prints offer told old new s.Full)
     × (count_by is_full printed.run.replies ≡ lines)
 IsDetail offer told old new e.Done = Unit {0}
@@ -43,16 +49,34 @@ pub record SinkStep (K : Type 0) : Type 0 where
   pub old : K
   pub new : K
 
+-- this is told of a choice that inserts lines
+abbrev pub IfInserts : Option Choice → Type 0 → Type 0
+IfInserts offer Fact = IfSome offer (λ c. is_check c.job ≡ false → Fact)
+
+-- this is told of a choice that checks a report
+abbrev pub IfChecks : Option Choice → (Choice → Type 0) → Type 0
+IfChecks offer Fact = IfSome offer (λ c. is_check c.job ≡ true → Fact c)
+
+-- no trace and report of its lines stand in the bytes
+abbrev pub HasNoReport : Choice → List ℕ → Type 0
+HasNoReport c bytes = (trace : List Vector) (replies : List Reply) → IsInput c bytes trace replies → ⊥
+
 -- a run of what is offered ended with this status, and left its source and its sink so
 pub record Outcome {S K : Type 0} (offer : Option Choice) (source : SourceStep S) (sink : SinkStep K)
     (status : Status) : Type 0 where
   -- with `Done` or `Full` the sink took all of the text: that of replies to the lines, which form one history
-  pub replies_form_one_history : is_printed status ≡ true
-      → Prints offer (source.left source.old) (sink.taken sink.old) (sink.taken sink.new) status
+  pub replies_form_one_history : is_printed status ≡ true → IfInserts offer
+      (Prints offer (source.left source.old) (sink.taken sink.old) (sink.taken sink.new) status)
+  -- where a report is checked, with `Done` or `Refuted`: that of the verdict, which is `yes` exactly where
+  -- some history has the report's replies
+  pub verdict : is_printed status ≡ true → IfChecks offer
+      (λ c. PrintsVerdict c (source.left source.old) (sink.taken sink.old) (sink.taken sink.new) status)
   pub settled : is_printed status ≡ true → sink.settled sink.new ≡ true
   -- with `WriteFault` it took a front of the text, and with all else nothing
-  pub front : status ≡ s.WriteFault
-      → PrintsFront offer (source.left source.old) (sink.taken sink.old) (sink.taken sink.new)
+  pub front : status ≡ s.WriteFault → IfInserts offer
+      (PrintsFront offer (source.left source.old) (sink.taken sink.old) (sink.taken sink.new))
+  pub verdict_front : status ≡ s.WriteFault → IfChecks offer
+      (λ c. PrintsVerdictFront c (source.left source.old) (sink.taken sink.old) (sink.taken sink.new))
   pub write_fault : status ≡ s.WriteFault → Rose (sink.faults sink.old) (sink.faults sink.new)
   pub untouched : is_printed status ≡ false → status ≢ s.WriteFault → sink.new ≡ sink.old
   -- the words
@@ -66,7 +90,9 @@ pub record Outcome {S K : Type 0} (offer : Option Choice) (source : SourceStep S
   pub read_fault : status ≡ s.ReadFault → Rose (source.faults source.old) (source.faults source.new)
   pub gave : GivesWithin (source.left source.old) (source.left source.new) status
   pub bad_trace : status ≡ s.BadTrace
-      → IfSome (source.left source.old) (λ bytes. valid_input offer bytes ≡ None)
+      → IfSome offer (λ c. IfSome (source.left source.old) (λ bytes. HasNoTrace c bytes))
+  pub bad_report : status ≡ s.BadReport
+      → IfSome offer (λ c. (c.job ≡ Check) × IfSome (source.left source.old) (HasNoReport c))
 
 -- the same, and what is told beside the status
 pub record EndsAs {S K : Type 0} (offer : Option Choice) (source : SourceStep S) (sink : SinkStep K)
@@ -97,8 +123,8 @@ pub record RunEnds {S K N : Type 0} (offer : Option Choice) (source : SourceStep
       (λ run text. Headline run text)
   -- and that there is such a run, and what else became of source and sink
   pub outcome : Outcome offer source sink status
-  -- the note of the end, which is handed on whole, but none for `Done`
+  -- the note of the end, which is handed on whole; there is none for `Done` and `Refuted`
   pub note : IsNote offer source sink notes status
-  pub note_settled : status ≢ s.Done → (Rose (notes.faults notes.old) (notes.faults notes.new) → ⊥)
+  pub note_settled : has_note status ≡ true → (Rose (notes.faults notes.old) (notes.faults notes.new) → ⊥)
       → notes.settled notes.new ≡ true
-  pub no_note : status ≡ s.Done → notes.new ≡ notes.old
+  pub no_note : has_note status ≡ false → notes.new ≡ notes.old

@@ -9,7 +9,7 @@ use Rattle.tdb_base.specs.declared.reply.Reply.TheVariants as r
 use Rattle.trace_csv.specs.Sorted.{IsSortedSet}
 use Rattle.trace_csv.specs.Vectors.{vectors_of}
 use Rattle.command_line.specs.declared.outcome.Job.{Job}
-use Rattle.command_line.specs.declared.outcome.Job.TheVariants.{Insert, Distinct, Bench}
+use Rattle.command_line.specs.declared.outcome.Job.TheVariants.{Insert, Distinct, Bench, Check}
 use Rattle.treedb.specs.declared.distinct.ReadBack.{ReadBack}
 
 -- the vectors, in the order of the numbers
@@ -88,3 +88,5 @@ IfPrinted Insert (Some back) Fact = ⊥
 IfPrinted Insert None Fact = ⊤
 IfPrinted Bench (Some back) Fact = ⊥
 IfPrinted Bench None Fact = ⊤
+IfPrinted Check (Some back) Fact = ⊥
+IfPrinted Check None Fact = ⊤

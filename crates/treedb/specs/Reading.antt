@@ -1,5 +1,5 @@
--- What reading a trace leaves of its source, and why some bytes are no trace.
-use Rattle.std.specs.Prelude.{◌≡◌, ◌≢◌, ◌<◌, ◌↔◌, ℕ, true, false, List, Option, Result, Ok, Err, IfSome}
+-- What reading an input leaves of its source, and why it is refused.
+use Rattle.std.specs.Prelude.{◌≡◌, ◌≢◌, ◌<◌, ◌↔◌, ℕ, false, List, Option, Result, Ok, Err, IfSome}
 use Rattle.std.specs.Prelude.{length}
 use Rattle.std.specs.Io.KnownBytes.{Consumes}
 use Rattle.tdb_base.specs.History.{Vector}
@@ -7,22 +7,31 @@ use Rattle.trace_csv.specs.Input.{limit}
 use Rattle.trace_csv.specs.Trace.{Unsigned, trace_of}
 use Rattle.trace_csv.specs.declared.refusal.TraceError.TheVariants as t
 use Rattle.command_line.specs.declared.outcome.Choice.{Choice}
-use Rattle.treedb.specs.Lines.{is_reader, takes_lines}
+use Rattle.run_check.specs.Cut.{IsWhole}
+use Rattle.command_line.specs.declared.outcome.Job.TheVariants.{Check}
+use Rattle.treedb.specs.Check.{IsWrongInput}
+use Rattle.treedb.specs.Lines.{IsTraceText, takes_lines}
 use Rattle.treedb.specs.declared.ended.Ended.{Ended}
 use Rattle.treedb.specs.declared.ended.Ended.TheVariants as e
 use Rattle.treedb.specs.declared.ended.Refusal.{Refusal}
 use Rattle.treedb.specs.declared.ended.Refusal.TheVariants as r
 
--- the bytes are refused for this: the first fault of their trace, or lines that the mode doesn't take
+-- the bytes are refused for this: the first fault of their trace, or lines that the choice doesn't take
 abbrev pub IsRefusedFor : Choice → List ℕ → Refusal → Type 0
 IsRefusedFor c bytes (r.Trace error) = (trace_of (Unsigned c.profile) bytes ≡ Err error)
     × (error ≢ t.NoMemory)
 IsRefusedFor c bytes r.NotPairs = (lines : List Vector) × (trace_of (Unsigned c.profile) bytes ≡ Ok lines)
-    × (takes_lines c.mode lines ≡ false)
+    × (takes_lines c lines ≡ false)
 
--- a run that reads no lines ends with a refusal of the bytes, or for want of memory
+-- the trace of an input is refused for this
+abbrev pub IsBadTrace : Choice → List ℕ → Refusal → Type 0
+IsBadTrace c bytes refusal = (text : List ℕ) × IsTraceText c.job bytes text × IsRefusedFor c text refusal
+
+-- a run ends with a refusal of the bytes that are its input, or for want of memory
 abbrev pub Refuses : Choice → List ℕ → Ended → Type 0
-Refuses c bytes (e.BadTrace refusal) = IsRefusedFor c bytes refusal
+Refuses c bytes (e.BadTrace refusal) = IsBadTrace c bytes refusal
+Refuses c bytes e.NoReport = (c.job ≡ Check) × IsWhole bytes
+Refuses c bytes (e.WrongReport line) = (c.job ≡ Check) × IsWrongInput c bytes line
 Refuses c bytes e.NoMemory = Unit {0}
 Refuses c bytes e.Done = ⊥
 Refuses c bytes e.Usage = ⊥
@@ -30,11 +39,13 @@ Refuses c bytes e.TooMuch = ⊥
 Refuses c bytes (e.Full lines) = ⊥
 Refuses c bytes e.ReadFault = ⊥
 Refuses c bytes e.WriteFault = ⊥
+Refuses c bytes e.Refuted = ⊥
 
--- how a run ends that reads no lines from its source
+-- or it ends so because its source gave no input
 abbrev pub EndsReading : Choice → Option (List ℕ) → Ended → Type 0
-EndsReading c told (e.BadTrace refusal) = IfSome told (λ bytes. IsRefusedFor c bytes refusal)
-    × (is_reader c.job ≡ true)
+EndsReading c told (e.BadTrace refusal) = IfSome told (λ bytes. IsBadTrace c bytes refusal)
+EndsReading c told e.NoReport = (c.job ≡ Check) × IfSome told IsWhole
+EndsReading c told (e.WrongReport line) = (c.job ≡ Check) × IfSome told (λ bytes. IsWrongInput c bytes line)
 EndsReading c told e.NoMemory = Unit {0}
 EndsReading c told e.TooMuch = Unit {0}
 EndsReading c told e.ReadFault = Unit {0}
@@ -42,8 +53,9 @@ EndsReading c told e.Done = ⊥
 EndsReading c told e.Usage = ⊥
 EndsReading c told (e.Full lines) = ⊥
 EndsReading c told e.WriteFault = ⊥
+EndsReading c told e.Refuted = ⊥
 
--- the source was read to its end: there are lines, or they are refused
+-- the source was read to its end: there is what was read, or it is refused
 abbrev pub ReadsToEnd : {T : Type 0} → Result T Ended → Type 0
 ReadsToEnd (Ok lines) = Unit {0}
 ReadsToEnd (Err (e.BadTrace refusal)) = Unit {0}
@@ -54,8 +66,11 @@ ReadsToEnd (Err e.Done) = ⊥
 ReadsToEnd (Err e.Usage) = ⊥
 ReadsToEnd (Err (e.Full lines)) = ⊥
 ReadsToEnd (Err e.WriteFault) = ⊥
+ReadsToEnd (Err e.NoReport) = Unit {0}
+ReadsToEnd (Err (e.WrongReport line)) = Unit {0}
+ReadsToEnd (Err e.Refuted) = ⊥
 
--- what the source gave while the lines were read: more than the limit is too much, and nothing else is
+-- what the source gave while it was read: more than the limit is too much, and nothing else is
 pub record GaveWithin {T : Type 0} (old new : Option (List ℕ)) (result : Result T Ended) : Type 0 where
   pub gave : List ℕ
   pub given : Consumes old new gave

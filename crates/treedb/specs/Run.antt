@@ -1,6 +1,6 @@
 -- What a run of the program leaves behind.
-use Rattle.std.specs.Prelude.{◌≡◌, ◌<◌, ◌↔◌, ℕ, Bool, true, false, List, [], Option, Some, None, length}
-use Rattle.std.specs.Prelude.{option_and_then}
+use Rattle.std.specs.Prelude.{◌≡◌, ◌≢◌, ◌<◌, ◌^◌, ◌↔◌, ℕ, Bool, true, false, List, [], All, Option, Some}
+use Rattle.std.specs.Prelude.{None, length, ⊤}
 use Rattle.std.specs.Io.KnownBytes.{Consumes, Appends}
 use Rattle.std.specs.List.{list_any, range_with_len}
 use Rattle.tdb_base.specs.Agrees.{Agrees}
@@ -14,16 +14,18 @@ use Rattle.tdb_base.specs.declared.reply.Reply.{Reply}
 use Rattle.tdb_base.specs.declared.reply.Status.{Status}
 use Rattle.tdb_base.specs.declared.reply.Status.TheVariants as s
 use Rattle.trace_csv.specs.Input.{limit}
+use Rattle.trace_csv.specs.OneReport.{HasWordId}
 use Rattle.trace_csv.specs.Output.{TakesFront}
 use Rattle.trace_csv.specs.Report.{report, summary_of, summary_text}
 use Rattle.trace_csv.specs.Sorted.{IsSortedText}
 use Rattle.trace_csv.specs.declared.report.Stats.{Stats}
+use Rattle.trace_csv.specs.declared.report.Summary.{Summary}
 use Rattle.command_line.specs.declared.outcome.Job.{Job}
-use Rattle.command_line.specs.declared.outcome.Job.TheVariants.{Insert, Distinct, Bench}
+use Rattle.command_line.specs.declared.outcome.Job.TheVariants.{Insert, Distinct, Bench, Check}
 use Rattle.command_line.specs.declared.outcome.Mode.{Mode}
 use Rattle.command_line.specs.declared.outcome.Mode.TheVariants.{Plain, Compact}
 use Rattle.command_line.specs.declared.outcome.Choice.{Choice}
-use Rattle.treedb.specs.Lines.{IsTraceFor, valid_lines}
+use Rattle.treedb.specs.Lines.{IsTraceFor}
 use Rattle.treedb.specs.Offered.{flag_count}
 use Rattle.treedb.specs.Pairs.{IsOfPairs}
 use Rattle.treedb.specs.Stored.{InStore}
@@ -38,6 +40,8 @@ is_printed s.TooMuch = false
 is_printed s.ReadFault = false
 is_printed s.WriteFault = false
 is_printed s.NoMemory = false
+is_printed s.BadReport = false
+is_printed s.Refuted = true
 
 -- the run read its input to the end, if it reads one
 abbrev pub reads_to_end : Status → Bool
@@ -49,6 +53,8 @@ reads_to_end s.Usage = false
 reads_to_end s.TooMuch = false
 reads_to_end s.ReadFault = false
 reads_to_end s.NoMemory = false
+reads_to_end s.BadReport = true
+reads_to_end s.Refuted = true
 
 -- what the source gave in the run: more than the limit is answered `TooMuch`, and nothing else is
 pub record GivesWithin (old new : Option (List ℕ)) (status : Status) : Type 0 where
@@ -61,8 +67,8 @@ abbrev pub IsOfMode : Mode → Choice → List Vector → List Reply → History
 IsOfMode Plain c trace replies h stats = InStore c trace replies h stats
 IsOfMode Compact c trace replies h stats = IsOfPairs c.profile replies h × (stats ≡ None)
 
--- a run of a choice over the input that a source tells: its lines, a reply for each, and the one history that
--- the replies form
+-- a run that inserts lines, of a choice over the input that a source tells: its lines, a reply for each, and
+-- the one history that the replies form
 pub record Run (offer : Option Choice) (told : Option (List ℕ)) : Type 0 where
   pub choice : Choice
   pub trace : List Vector
@@ -81,6 +87,15 @@ abbrev pub IsText : Job → List Reply → History → Option Stats → List ℕ
 IsText Insert replies h stats text = text ≡ report replies (summary_of replies stats)
 IsText Distinct replies h stats text = IsSortedText (named h) text
 IsText Bench replies h stats text = text ≡ summary_text (summary_of replies stats)
+IsText Check replies h stats text = ⊥
+
+-- where the text is a report, it is that of no other replies
+abbrev pub TellsOnly : Job → List Reply → List ℕ → Type 0
+TellsOnly Insert replies text = (others : List Reply) (summary : Summary) → All HasWordId others
+    → length others < 2 ^ 64 → text ≡ report others summary → others ≡ replies
+TellsOnly Distinct replies text = ⊤
+TellsOnly Bench replies text = ⊤
+TellsOnly Check replies text = ⊤
 
 abbrev pub IsTextOf : {offer : Option Choice} {told : Option (List ℕ)} → Run offer told → List ℕ → Type 0
 IsTextOf run text = IsText run.choice.job run.replies run.history run.stats text
@@ -102,13 +117,16 @@ pub record Headline {offer : Option Choice} {told : Option (List ℕ)} (run : Ru
   pub names_are_kept_for_good : KeepsNames (flag_count run.choice.profile) run.history
   pub printed_vectors_are_those_of_the_lines : PrintsTheLines run text
 
--- the sink took the text of a run, which is answered `Full` exactly where some line is full
+-- the sink took the text of a run, which is that of no other replies; `Full` is the status exactly where some
+-- line is full
 pub record Prints (offer : Option Choice) (told old new : Option (List ℕ)) (status : Status) : Type 0 where
   pub run : Run offer told
   pub text : List ℕ
   pub is_text : IsTextOf run text
   pub taken : Appends old new text
+  pub only : TellsOnly run.choice.job run.replies text
   pub full : (status ≡ s.Full) ↔ (list_any is_full run.replies ≡ true)
+  pub never_refuted : status ≢ s.Refuted
 
 -- this holds of every run whose text is what the sink took
 abbrev pub OfPrinted : (offer : Option Choice) (told old new : Option (List ℕ))
@@ -122,7 +140,3 @@ pub record PrintsFront (offer : Option Choice) (told old new : Option (List ℕ)
   pub text : List ℕ
   pub is_text : IsTextOf run text
   pub taken : TakesFront old new text
-
--- the lines of a valid input
-abbrev pub valid_input : Option Choice → List ℕ → Option (List Vector)
-valid_input offer bytes = option_and_then (λ c. valid_lines c bytes) offer

@@ -1,11 +1,7 @@
 -- How a run ends that wrote its text.
-use Rattle.std.specs.Prelude.{◌≡◌, ◌⊎◌, ℕ, zero, suc, List, [], Option, count_by}
+use Rattle.std.specs.Prelude.{◌≡◌, ◌⊎◌, ℕ, zero, suc, List, Option, count_by}
 use Rattle.std.specs.Io.KnownBytes.{Appends}
 use Rattle.trace_csv.specs.Output.{TakesFront}
-use Rattle.trace_csv.specs.Report.{report, summary_of, summary_text}
-use Rattle.trace_csv.specs.declared.report.Stats.{Stats}
-use Rattle.command_line.specs.declared.outcome.Job.{Job}
-use Rattle.command_line.specs.declared.outcome.Job.TheVariants.{Insert, Distinct, Bench}
 use Rattle.tdb_base.specs.Replies.{is_full}
 use Rattle.tdb_base.specs.declared.reply.Reply.{Reply}
 use Rattle.treedb.specs.declared.ended.Ended.{Ended}
@@ -19,19 +15,8 @@ ended_with_full (suc n) = e.Full (suc n)
 abbrev pub ended_with : List Reply → Ended
 ended_with replies = ended_with_full (count_by is_full replies)
 
--- the text of a job that prints replies
-abbrev pub text_of : Job → List Reply → Option Stats → List ℕ
-text_of Insert replies stats = report replies (summary_of replies stats)
-text_of Distinct replies stats = []
-text_of Bench replies stats = summary_text (summary_of replies stats)
-
 -- the sink took a text, and the run ends as the replies are full or not; or it failed after a front of the
 -- text
 abbrev pub WritesText : List ℕ → List Reply → (old new : Option (List ℕ)) → Ended → Type 0
 WritesText text replies old new ended =
     (Appends old new text × (ended ≡ ended_with replies)) ⊎ (TakesFront old new text × (ended ≡ e.WriteFault))
-
--- the sink took the text of the replies, and the run ends as they are full or not; or it failed after a front
--- of the text
-abbrev pub WritesAnswers : Job → List Reply → Option Stats → (old new : Option (List ℕ)) → Ended → Type 0
-WritesAnswers job replies stats old new ended = WritesText (text_of job replies stats) replies old new ended

@@ -17,7 +17,7 @@ pub enum Refusal {
 /// How a run ended, with what its note tells.
 #[derive(Clone, Copy, Debug, PartialEq, Eq)]
 pub enum Ended {
-    /// The text was written, and no line was answered full.
+    /// The text was written, and no line was answered full; or a report has a history.
     Done,
     /// The words of the command line are faulty.
     Usage,
@@ -33,6 +33,12 @@ pub enum Ended {
     WriteFault,
     /// Memory ran out.
     NoMemory,
+    /// The input has no report.
+    NoReport,
+    /// This text line of the report, from 1, is wrong.
+    WrongReport(u64),
+    /// The verdict was written, that the report has no history.
+    Refuted,
 }
 
 impl Ended {
@@ -49,6 +55,8 @@ impl Ended {
             Ended::ReadFault => Status::ReadFault,
             Ended::WriteFault => Status::WriteFault,
             Ended::NoMemory => Status::NoMemory,
+            Ended::NoReport | Ended::WrongReport(_) => Status::BadReport,
+            Ended::Refuted => Status::Refuted,
         }
     }
 }

@@ -2,18 +2,24 @@
 //! standard output.
 #![tactic(auto)]
 
+mod bench;
+mod check;
 mod distinct;
 #[cfg(test)]
 mod distinct_tests;
 mod ended;
 mod input;
+mod insert;
+mod job;
+mod line_text;
 #[cfg(test)]
 mod note_tests;
 mod notes;
 mod output;
 mod pairs;
-mod plain;
 mod run;
+mod stats;
+mod store;
 #[cfg(test)]
 mod tests;
 

@@ -2,17 +2,18 @@
 
 use crate::ended::{Ended, Refusal};
 use crate::notes::write_note;
+use run_check::ReportError;
 use std::test::Fail;
 use tdb_base::MemSink;
 use trace_csv::TraceError;
 
 // Each end of a run, with its exit status and its note.
-const NOTES: [(Ended, u8, &str); 14] = [
+const NOTES: [(Ended, u8, &str); 18] = [
     (Ended::Done, 0, ""),
     (
         Ended::Usage,
         2,
-        "usage: treedb insert|distinct|bench [--mode plain|compact] [--profile 16|28|31]
+        "usage: treedb insert|distinct|bench|check [--mode plain|compact] [--profile 16|28|31]
   [--workers N] [--block N] [--nodes D] [--roots R] [--region S] [--probe P]
   [--stats] [--lines N] [--slots K] [--values M] [--seed S]
 ",
@@ -57,6 +58,14 @@ const NOTES: [(Ended, u8, &str); 14] = [
     (Ended::ReadFault, 6, "treedb: read fault\n"),
     (Ended::WriteFault, 7, "treedb: write fault\n"),
     (Ended::NoMemory, 8, "treedb: no memory\n"),
+    (Ended::NoReport, 9, "treedb: no report\n"),
+    (Ended::WrongReport(2), 9, "treedb: report line 2 is wrong\n"),
+    (
+        Ended::WrongReport(u64::MAX),
+        9,
+        "treedb: report line 18446744073709551615 is wrong\n",
+    ),
+    (Ended::Refuted, 10, ""),
 ];
 
 #[test]
@@ -81,6 +90,22 @@ fn a_fault_leaves_a_prefix(rt: HostRuntime) -> Result<(), Fail> {
             write_note(&ended, &mut notes);
             assert_eq!(rt; notes.bytes(), &text.as_bytes()[..place], "{text}");
         }
+    }
+    Ok(())
+}
+
+// A report's error says of itself what the note says.
+#[test]
+fn a_note_is_the_error_that_it_tells(rt: HostRuntime) -> Result<(), Fail> {
+    let alloc = rt.alloc();
+    for (ended, error) in [
+        (Ended::WrongReport(7), ReportError::Syntax(7)),
+        (Ended::NoMemory, ReportError::NoMemory),
+    ] {
+        let mut notes = MemSink::new(alloc, 512, Vec::new(alloc), 7)?;
+        write_note(&ended, &mut notes);
+        let text = format!(in alloc; "treedb: {error}\n")?;
+        assert_eq!(rt; notes.bytes(), text.as_bytes());
     }
     Ok(())
 }

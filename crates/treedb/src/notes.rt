@@ -1,29 +1,27 @@
 //! The note of how a run ended, as it is written.
-ghost use Rattle.std.specs.Prelude.{◌≡◌, ◌≢◌, ◌≤◌, ◌++◌, codes, length, true};
+ghost use Rattle.std.specs.Prelude.{◌≡◌, ◌≤◌, ◌++◌, codes, length, true, false};
 ghost use Rattle.std.specs.Fmt.{decimal};
 ghost use Rattle.std.specs.Io.KnownBytes.{Appends};
 ghost use Rattle.tdb_base.specs.Causes.{Rose};
 ghost use Rattle.trace_csv.specs.Output.{TakesFront};
 ghost use Rattle.treedb.specs.Note as note;
 
-mod text;
-
 use crate::ended::{Ended, Refusal};
+use crate::line_text::LineText;
 use command_line::USAGE;
 use tdb_base::Sink;
-use text::NoteText;
 use trace_csv::{TraceError, write_text};
 
-/// Writes the note of a run's end, and hands it on. `Done` has none.
+/// Writes the note of a run's end, and hands it on. `Done` and `Refuted` have none.
 ///
 /// A fault of the notes ends the writing, so that they took a prefix of it, and changes nothing else.
 pub fn write_note<N: Sink>(ended: &Ended, notes: &mut N)
-    ensures done { ended.now ≡ Ended.Done → notes.new ≡ notes.old }
+    ensures none { note.has_note (note.status_of ended.now) ≡ false → notes.new ≡ notes.old }
     ensures front { TakesFront (N.taken notes.old) (N.taken notes.new) (note.note_text ended.now) }
     ensures exact { (Rose (N.faults notes.old) (N.faults notes.new) → ⊥)
         → Appends (N.taken notes.old) (N.taken notes.new) (note.note_text ended.now) }
-    ensures settled { ended.now ≢ Ended.Done → (Rose (N.faults notes.old) (N.faults notes.new) → ⊥)
-        → N.settled notes.new ≡ true }
+    ensures settled { note.has_note (note.status_of ended.now) ≡ true
+        → (Rose (N.faults notes.old) (N.faults notes.new) → ⊥) → N.settled notes.new ≡ true }
     ensures later { N.faults notes.old ≤ N.faults notes.new }
 {
     match ended {
@@ -34,7 +32,9 @@ pub fn write_note<N: Sink>(ended: &Ended, notes: &mut N)
         Ended::ReadFault => put_note(b"treedb: read fault\n", notes),
         Ended::WriteFault => put_note(b"treedb: write fault\n", notes),
         Ended::NoMemory => put_note(b"treedb: no memory\n", notes),
-        Ended::Done => {}
+        Ended::NoReport => put_note(b"treedb: no report\n", notes),
+        Ended::WrongReport(line) => put_note(report_text(*line).as_slice(), notes),
+        Ended::Done | Ended::Refuted => {}
     }
 }
 
@@ -50,16 +50,16 @@ fn put_note<N: Sink>(text: &[u8], notes: &mut N)
     let _ = write_text(text, notes);
 }
 
-fn refusal_text(refusal: Refusal) -> NoteText
+fn refusal_text(refusal: Refusal) -> LineText
     ensures { result ≡ note.refusal_text refusal }
 {
     match refusal {
         Refusal::Trace(error) => trace_text(error),
-        Refusal::NotPairs => NoteText::of(b"treedb: compact mode takes 2 slots\n"),
+        Refusal::NotPairs => LineText::of(b"treedb: compact mode takes 2 slots\n"),
     }
 }
 
-fn trace_text(error: TraceError) -> NoteText
+fn trace_text(error: TraceError) -> LineText
     ensures { result ≡ note.trace_text error }
 {
     match error {
@@ -74,18 +74,18 @@ fn trace_text(error: TraceError) -> NoteText
         TraceError::Length(row, fields) => {
             count_text(row, fields, b" fields, 2 to 1024 are allowed\n")
         }
-        TraceError::NoRecords => NoteText::of(b"treedb: no records\n"),
-        TraceError::NoMemory => NoteText::of(b"treedb: no memory\n"),
+        TraceError::NoRecords => LineText::of(b"treedb: no records\n"),
+        TraceError::NoMemory => LineText::of(b"treedb: no memory\n"),
     }
 }
 
 // A fault of a field.
-fn field_text(row: u64, field: u64, fault: &[u8]) -> NoteText
+fn field_text(row: u64, field: u64, fault: &[u8]) -> LineText
     requires { length fault.now ≤ 40 }
     ensures { result ≡
         codes "treedb: record " ++ decimal row ++ codes " field " ++ decimal field ++ fault.now }
 {
-    let mut text = NoteText::of(b"treedb: record ");
+    let mut text = LineText::of(b"treedb: record ");
     text.add_number(row);
     text.add(b" field ");
     text.add_number(field);
@@ -94,13 +94,13 @@ fn field_text(row: u64, field: u64, fault: &[u8]) -> NoteText
 }
 
 // The count of a record's fields, and what is wrong with it.
-fn count_text(row: u64, fields: u64, fault: &[u8]) -> NoteText
+fn count_text(row: u64, fields: u64, fault: &[u8]) -> LineText
     requires { length fault.now ≤ 40 }
     ensures text { result ≡ codes "treedb: record " ++ decimal row ++ codes " has " ++ decimal fields ++
         fault.now }
     ensures short { length result ≤ 100 }
 {
-    let mut text = NoteText::of(b"treedb: record ");
+    let mut text = LineText::of(b"treedb: record ");
     text.add_number(row);
     text.add(b" has ");
     text.add_number(fields);
@@ -108,10 +108,19 @@ fn count_text(row: u64, fields: u64, fault: &[u8]) -> NoteText
     text
 }
 
-fn full_text(lines: u64) -> NoteText
+fn report_text(line: u64) -> LineText
+    ensures { result ≡ codes "treedb: report line " ++ decimal line ++ codes " is wrong\n" }
+{
+    let mut text = LineText::of(b"treedb: report line ");
+    text.add_number(line);
+    text.add(b" is wrong\n");
+    text
+}
+
+fn full_text(lines: u64) -> LineText
     ensures { result ≡ codes "treedb: " ++ decimal lines ++ codes " lines full\n" }
 {
-    let mut text = NoteText::of(b"treedb: ");
+    let mut text = LineText::of(b"treedb: ");
     text.add_number(lines);
     text.add(b" lines full\n");
     text

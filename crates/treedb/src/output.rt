@@ -1,27 +1,17 @@
-//! What a run writes.
-ghost use Rattle.std.specs.Prelude.{◌≡◌, ◌≢◌, true};
+//! What a run that inserts lines writes.
+ghost use Rattle.std.specs.Prelude.{◌≡◌, ◌≢◌, All, true};
 ghost use Rattle.tdb_base.specs.Causes.{Rose};
-ghost use Rattle.trace_csv.specs.Report.{summary_of};
+ghost use Rattle.trace_csv.specs.OneReport.{HasWordId};
+ghost use Rattle.trace_csv.specs.Report.{report, summary_of, summary_text};
 ghost use Rattle.trace_csv.specs.Vectors.{vectors_text};
 ghost use Rattle.treedb.specs.ReadBack.{AreThere, vectors};
-ghost use Rattle.treedb.specs.Writing.{WritesAnswers, WritesText, ended_with};
+ghost use Rattle.treedb.specs.Writing.{WritesText, ended_with};
 
 use crate::distinct::ReadBack;
 use crate::ended::Ended;
-use command_line::Job;
+use crate::stats::summary;
 use tdb_base::{Reply, Sink};
-use trace_csv::{Stats, Summary, WriteFault, write_report, write_summary, write_vectors};
-
-// The summary of some replies.
-fn summary(replies: &[Reply], stats: Option<Stats>) -> Summary
-    ensures { result ≡ summary_of replies.now stats }
-{
-    Summary {
-        lines: replies.len() as u64,
-        distinct: replies.iter().filter(|reply| reply.is_new()).count() as u64,
-        stats,
-    }
-}
+use trace_csv::{Stats, WriteFault, write_report, write_summary, write_vectors};
 
 // How a run ends whose text was written.
 fn ended(replies: &[Reply]) -> Ended
@@ -34,27 +24,32 @@ fn ended(replies: &[Reply]) -> Ended
     Ended::Done
 }
 
-/// Writes the text of a job whose lines were answered so: the report of all replies, or the summary alone.
-/// The sink is finished then.
+/// Writes the report of all replies. The sink is finished then.
 ///
 /// `WriteFault` comes only where the sink's count of faults rose, and leaves a front of the text.
-pub fn write_answers<K: Sink>(
-    job: Job,
-    replies: &[Reply],
-    stats: Option<Stats>,
-    sink: &mut K,
-) -> Ended
-    requires { job ≢ Job.Distinct }
-    ensures written { WritesAnswers job replies.now stats (K.taken sink.old) (K.taken sink.new) result }
+pub fn write_replies<K: Sink>(replies: &[Reply], stats: Option<Stats>, sink: &mut K) -> Ended
+    ensures written { WritesText (report replies.now (summary_of replies.now stats)) replies.now
+        (K.taken sink.old) (K.taken sink.new) result }
+    ensures fit { result ≢ Ended.WriteFault → All HasWordId replies.now }
     ensures settled { result ≢ Ended.WriteFault → K.settled sink.new ≡ true }
     ensures fault { result ≡ Ended.WriteFault → Rose (K.faults sink.old) (K.faults sink.new) }
 {
-    let summary = summary(replies, stats);
-    let written = match job {
-        Job::Bench => write_summary(&summary, sink),
-        _ => write_report(replies, &summary, sink),
-    };
-    match written {
+    match write_report(replies, &summary(replies, stats), sink) {
+        Ok(()) => ended(replies),
+        Err(WriteFault) => Ended::WriteFault,
+    }
+}
+
+/// Writes the summary of some replies alone. The sink is finished then.
+///
+/// `WriteFault` comes only where the sink's count of faults rose, and leaves a front of the text.
+pub fn write_counts<K: Sink>(replies: &[Reply], stats: Option<Stats>, sink: &mut K) -> Ended
+    ensures written { WritesText (summary_text (summary_of replies.now stats)) replies.now
+        (K.taken sink.old) (K.taken sink.new) result }
+    ensures settled { result ≢ Ended.WriteFault → K.settled sink.new ≡ true }
+    ensures fault { result ≡ Ended.WriteFault → Rose (K.faults sink.old) (K.faults sink.new) }
+{
+    match write_summary(&summary(replies, stats), sink) {
         Ok(()) => ended(replies),
         Err(WriteFault) => Ended::WriteFault,
     }

@@ -1,8 +1,9 @@
 //! The report's text goes to a sink.
-ghost use Rattle.std.specs.Prelude.{◌≡◌, ◌+◌, ◌≤◌, ◌++◌, Some, length, true, OnOk, OnErr, count_by};
+ghost use Rattle.std.specs.Prelude.{◌≡◌, ◌+◌, ◌≤◌, ◌++◌, All, Some, length, true, OnOk, OnErr, count_by};
 ghost use Rattle.std.specs.Io.KnownBytes.{Appends};
 ghost use Rattle.tdb_base.specs.Causes.{HasCause};
 ghost use Rattle.tdb_base.specs.Replies.{is_new};
+ghost use Rattle.trace_csv.specs.OneReport.{HasWordId};
 ghost use Rattle.trace_csv.specs.Output.{TakesFront};
 ghost use Rattle.trace_csv.specs.Page.{HasRoom};
 ghost use Rattle.trace_csv.specs.Report.{report, summary_text, stats_text, reply_line, named_line};
@@ -25,6 +26,7 @@ pub fn write_report<K: Sink>(
     requires distinct { summary.now.distinct ≡ count_by is_new replies.now }
     ensures ok { OnOk result
         (Appends (K.taken sink.old) (K.taken sink.new) (report replies.now summary.now)) }
+    ensures fit { OnOk result (All HasWordId replies.now) }
     ensures settled { OnOk result (K.settled sink.new ≡ true) }
     ensures front { OnErr result
         (TakesFront (K.taken sink.old) (K.taken sink.new) (report replies.now summary.now)) }
@@ -58,7 +60,8 @@ pub fn write_summary<K: Sink>(summary: &Summary, sink: &mut K) -> Result<(), Wri
 // Adds the line of a reply, at most 53 bytes.
 fn add_reply(number: u64, reply: Reply, page: &mut Page)
     requires { HasRoom page.old 53 }
-    ensures { page.new ≡ page.old ++ reply_line number reply }
+    ensures text { page.new ≡ page.old ++ reply_line number reply }
+    ensures fits { HasWordId reply }
 {
     page.add_number(number);
     page.add(b",");

@@ -1,16 +1,14 @@
-use Rattle.std.proofs.Common.{map, string_bytes, sym}
-use Rattle.treedb.specs.Offered.{offered, offered_plain}
-use Rattle.treedb.proofs.Ending.{run_ends, run_ends_for}
+use Rattle.std.proofs.Common.{map, string_bytes, sym, ◌∙◌}
+use Rattle.treedb.proofs.Ending.{ends_for, run_ends, run_ends_for}
+use Rattle.treedb.proofs.OfferLemmas.{plain_offers}
 use Rattle.treedb.proofs.run.run.Goals as goal
 
-pub returns-in-Some : goal.returns-in-Some
-returns-in-Some g c =
-    let told = c.tell.ensures in
-    run_ends _ _ _ _ c.in-Some.ended c.tell.result c.in-Some.ensures.ended told.status told.noted told.settled told.done
+pub returns-in-Plain : goal.returns-in-Plain
+returns-in-Plain g c =
+    let offers = plain_offers (map string_bytes c.args.words.now) c.in-Ok.choice c.in-Ok.ensures.offers c.in-Plain.is in
+    run_ends_for _ _ (offers ∙ sym c.in-Ok.ensures.offers) c.run_plain.ensures
 
-pub returns-in-None : goal.returns-in-None
-returns-in-None g c =
-    let words = map string_bytes c.args.words.now in
-    run_ends_for g.S.Source.left g.S.Source.faults c.args.source.now _ c.run_plain.new.source
-    g.K.Sink.taken g.K.Sink.faults g.K.Sink.settled c.args.sink.now _ c.run_plain.new.sink
-    (offered_plain words) (offered words) (sym c.in-None.ensures.other) c.in-None.ensures.unread c.in-None.ensures.unwritten c.run_plain.ensures
+pub returns-in-Compact : goal.returns-in-Compact
+returns-in-Compact g c =
+    let told = c.tell.ensures in
+    run_ends _ _ _ _ c.do_job.result c.tell.result (ends_for _ _ (sym c.in-Ok.ensures.offers) c.do_job.ensures) told.status told.noted told.settled told.none

@@ -1,7 +1,10 @@
-use Rattle.treedb.proofs.Ending.{run_ends}
+use Rattle.std.proofs.Common.{map, string_bytes, sym}
+use Rattle.treedb.proofs.Ending.{ends_for, run_ends}
+use Rattle.treedb.proofs.OfferLemmas.{plain_offers}
 use Rattle.treedb.proofs.run.run_plain.Goals as goal
 
-pub returns : goal.returns
-returns g c =
+pub returns-in-Plain : goal.returns-in-Plain
+returns-in-Plain g c =
     let told = c.tell.ensures in
-    run_ends _ _ _ _ c.answer_plain_words-ended.result c.tell.result c.answer_plain_words-ended.ensures told.status told.noted told.settled told.done
+    let offers = plain_offers (map string_bytes c.args.words.now) c.in-Ok.choice c.in-Ok.ensures.offers c.in-Plain.is in
+    run_ends _ _ _ _ c.do_job.result c.tell.result (ends_for _ _ (sym offers) c.do_job.ensures) told.status told.noted told.settled told.none

@@ -1,5 +1,7 @@
 use Rattle.std.proofs.Common.{◌≡◌, ◌∙◌, arith, ◌++◌, [], List, ℕ, take, drop, ap, refl, sym, append_assoc}
 use Rattle.std.proofs.lemmas.List.{append-nil, take_all}
+use Rattle.std.proofs.lemmas.List.Elements.{All-more, All-nil}
+use Rattle.trace_csv.specs.OneReport.{HasWordId}
 use Rattle.trace_csv.specs.Report.{report, reply_lines, summary_text}
 use Rattle.trace_csv.proofs.OutputLemmas.{on_err}
 use Rattle.trace_csv.proofs.PageLemmas.{carries-add, carries-none, carries-room, carries-stop}
@@ -7,7 +9,7 @@ use Rattle.trace_csv.proofs.ReportLemmas.{lines-next, lines-none, lines-split}
 use Rattle.trace_csv.proofs.report.text.write_report.Goals as goal
 
 pub loop-i-init : goal.loop-i-init
-loop-i-init g c = record { carried = rw (lines-none 0) (carries-none _ _ c.new-page.ensures); later = omega arith }
+loop-i-init g c = record { carried = rw (lines-none 0) (carries-none _ _ c.new-page.ensures); fit = All-nil HasWordId; later = omega arith }
 
 pub returns-in_err-make_room-clause-front : goal.returns-in_err-make_room-clause-front
 returns-in_err-make_room-clause-front g c =
@@ -21,7 +23,8 @@ returns-in_err-make_room-clause-front g c =
 pub loop-i-preserved : goal.loop-i-preserved
 loop-i-preserved g c = record {
   carried = lines-next _ _ _ c.make_room.new.page c.add_reply.new.page c.args.replies.now c.loop-i.i _ (omega arith)
-      (carries-room _ _ _ _ _ _ _ c.loop-i.invariant.carried c.in_ok-make_room.ensures.ok) c.add_reply.ensures;
+      (carries-room _ _ _ _ _ _ _ c.loop-i.invariant.carried c.in_ok-make_room.ensures.ok) c.add_reply.ensures.text;
+  fit = All-more HasWordId c.args.replies.now c.loop-i.i _ (omega arith) c.loop-i.invariant.fit c.add_reply.ensures.fits;
   later = omega (arith, c.in_ok-make_room.ensures.cause.later);
 }
 

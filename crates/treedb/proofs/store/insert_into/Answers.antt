@@ -6,10 +6,10 @@ use Rattle.pair_rule.specs.declared.sizes.Sizes.{Sizes}
 use Rattle.treedb.specs.Offered.{flag_count}
 use Rattle.treedb.specs.Stored.{IsAboutChoice}
 use Rattle.treedb.specs.ReadBack.{AwaitsLines, IfPrinted}
-use Rattle.treedb.proofs.plain.insert_into.Goals as goal
+use Rattle.treedb.proofs.store.insert_into.Goals as goal
 
-pub insert_lines-requires : goal.insert_lines-requires
-insert_lines-requires g c =
+pub insert_new-requires : goal.insert_new-requires
+insert_new-requires g c =
     let choice = c.args.choice.now in
     let trace = c.args.trace.now in
     let made = c.in_ok-store.ensures in
@@ -32,4 +32,4 @@ insert_lines-requires g c =
     } in
     let room = subst (λ (n : ℕ). IfPrinted choice.job c.in_ok-room.room (AwaitsLines n (length trace))) (sym made.slots)
     (subst (λ (n : ℕ). IfPrinted choice.job c.in_ok-room.room (AwaitsLines c.slots-slots.result n)) c.len-2.ensures.count c.in_ok-room.ensures) in
-    (search rules, (search rules, (search rules, (search rules, (c.requires.valid, (about_is, (made.view, (made.whole, (made.rest, (c.requires.lines, (search rules, room)))))))))))
+    (search rules, (search rules, (search rules, (search rules, (c.requires.valid, (c.requires.plain, (about_is, (made.view, (made.whole, (made.rest, (c.requires.lines, (search rules, room))))))))))))

@@ -7,11 +7,13 @@ use Rattle.pair_rule.specs.declared.view.View.{View}
 use Rattle.root_plain.specs.declared.root.Roots.{Roots}
 use Rattle.work_run.proofs.Few.{few_puts}
 use Rattle.pair_rule.specs.Rest.{view}
+use Rattle.command_line.specs.declared.outcome.Mode.{Mode}
 use Rattle.treedb.specs.Offered.{flag_count}
+use Rattle.treedb.specs.Run.{IsOfMode}
 use Rattle.treedb.specs.ReadBack.{AwaitsLines, IsReadBack, IsReadBy, ReadsInto, new_id, new_ids}
 use Rattle.treedb.proofs.NewLemmas.{if-printed, if-some, new-named, read-back, read-into, read-renamed}
 use Rattle.treedb.proofs.Stores.{own_agrees, agrees_run, in_store_run, history}
-use Rattle.treedb.proofs.plain.insert_lines.Goals as goal
+use Rattle.treedb.proofs.store.insert_new.Goals as goal
 
 pub read_back-vectors-requires : goal.read_back-vectors-requires
 read_back-vectors-requires g c =
@@ -51,12 +53,13 @@ returns-clause-answered g c =
     let most = few_puts about trace replies choice.workers choice.block in
     let few : length (view last).made ≤ (about.slots - 2) * length trace = omega (arith, probed, ran.probes, none, most) in
     let own = own_agrees choice trace replies store first last some about_is flags_are c.requires.view c.requires.whole rested ran.one_history ran.whole ran.nodes ran.full few in
+    let run = history choice trace replies store first last some about_is flags_are c.requires.view c.requires.whole rested ran.one_history ran.whole ran.nodes ran.full few in
     let into = subst (λ (x : List Reply). ReadsInto (view last).seen (new_ids x) c.args.room c.read_back-vectors.result) c.deref.ensures.value c.read_back-vectors.ensures in
     let read = read-into choice.job c.args.room c.read_back-vectors.result (AwaitsLines about.slots (length trace)) (view last).seen (new_ids replies) c.requires.room into in
     record {
-      history = history choice trace replies store first last some about_is flags_are c.requires.view c.requires.whole rested ran.one_history ran.whole ran.nodes ran.full few;
+      history = run;
       agrees = agrees_run choice trace replies store first last some about_is flags_are c.requires.view c.requires.whole rested ran.one_history ran.whole ran.nodes ran.full few;
-      in_store = in_store_run choice trace replies store first last some about_is flags_are c.requires.view c.requires.whole rested ran.one_history ran.whole ran.nodes ran.full few c.stats_of-stats.result c.stats_of-stats.ensures;
+      of_mode = subst (λ (m : Mode). IsOfMode m choice trace replies run c.stats_of-stats.result) (sym c.requires.plain) (in_store_run choice trace replies store first last some about_is flags_are c.requires.view c.requires.whole rested ran.one_history ran.whole ran.nodes ran.full few c.stats_of-stats.result c.stats_of-stats.ensures);
       vectors = if-printed choice.job c.read_back-vectors.result (IsReadBy (view last).seen (new_ids replies)) (IsReadBack (renamed (place_of ran.one_history.0) (view last).seen))
           (λ back by. read-renamed (place_of ran.one_history.0) (view last).seen back
           (read-back (flag_count choice.profile) trace replies choice.workers choice.block (view last).seen ran.one_history.0 own some back by)) read;

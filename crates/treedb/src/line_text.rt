@@ -1,21 +1,21 @@
-//! The text of a note, put together on the stack.
+//! The text of a line, put together on the stack.
 ghost use Rattle.std.specs.Prelude.{◌≡◌, ◌+◌, ◌≤◌, ℕ, List, ◌++◌, length, take};
 ghost use Rattle.std.specs.Fmt.{decimal};
 
 use itoa::Buffer;
 use std::marker::Model;
 
-// The most bytes of a note line but the usage text: three numbers and some words.
+// The most bytes of a line: three numbers and some words.
 const ROOM: usize = 128;
 
-/// A note line on the stack, of at most 128 bytes.
+/// A line on the stack, of at most 128 bytes.
 #[derive(Drop)]
-pub struct NoteText {
+pub struct LineText {
     bytes: [u8; ROOM],
     len: usize,
 }
 
-impl Model for NoteText {
+impl Model for LineText {
     ghost Value = { List ℕ };
 
     ghost view = { λ t. take t.len t.bytes };
@@ -23,13 +23,13 @@ impl Model for NoteText {
     ghost invariant = { λ t. t.len ≤ 128 };
 }
 
-impl NoteText {
+impl LineText {
     /// A line that begins like this.
-    pub fn of(piece: &[u8]) -> NoteText
+    pub fn of(piece: &[u8]) -> LineText
         requires { length piece.now ≤ 128 }
         ensures { result ≡ piece.now }
     {
-        let mut text = NoteText {
+        let mut text = LineText {
             bytes: [0; ROOM],
             len: 0,
         };

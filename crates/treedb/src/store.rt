@@ -1,5 +1,5 @@
-//! Plain mode: the lines of a trace are inserted into a store whose roots stand in a plain table.
-ghost use Rattle.std.specs.Prelude.{◌≡◌, ◌≤◌, ◌<◌, ◌^◌, All, IfOk, OnErr, false, length};
+//! A store is made and filled: one call over mode and profile.
+ghost use Rattle.std.specs.Prelude.{◌≡◌, ◌≤◌, ◌<◌, ◌^◌, All, IfOk, OnErr, false, length, true};
 ghost use Rattle.packed_word.specs.Word.{IsLayout};
 ghost use Rattle.pair_rule.specs.Part.{IsTable};
 ghost use Rattle.pair_rule.specs.Rest.{AtRest, Whole, view};
@@ -10,12 +10,15 @@ ghost use Rattle.tree_store.specs.Vectors.{IsVector};
 ghost use Rattle.work_run.specs.Workers.{Unused};
 ghost use Rattle.command_line.specs.Sizes.{AreTableSizes};
 ghost use Rattle.command_line.specs.Valid.{IsValid};
-ghost use Rattle.treedb.specs.Offered.{flag_count};
-ghost use Rattle.treedb.specs.Answered.{AreAnswered, AreSizesOf, CountsOf};
+ghost use Rattle.treedb.specs.Lines.{takes_lines};
+ghost use Rattle.treedb.specs.Offered.{flag_count, is_check, is_offered};
+ghost use Rattle.treedb.specs.Answered.{AreAnswered, AreSizesOf};
 ghost use Rattle.treedb.specs.ReadBack.{AwaitsLines, IfPrinted};
-ghost use Rattle.treedb.specs.Stored.{AreTold, IsAboutChoice};
+ghost use Rattle.treedb.specs.Stored.{IsAboutChoice};
 
 use crate::distinct::{ReadBack, read_back, take_room};
+use crate::pairs::insert_pairs;
+use crate::stats::stats_of;
 use command_line::{Choice, Mode, sizes};
 use pair_rule::Sizes;
 use root_plain::PlainRoot;
@@ -81,28 +84,9 @@ fn make_store<const W: u32, const F: u32>(
     }
 }
 
-// The counts of the store as the pass tells them, if they are asked for.
-fn stats_of<const W: u32, const F: u32>(
-    store: &PlainStore<W, F>,
-    pass: &PlainPass<W, F>,
-    asked: bool,
-) -> Option<Stats>
-    requires { AtRest plain store.now pass.now }
-    ensures { AreTold asked result (CountsOf store.now.about (view pass.now)) }
-{
-    if !asked {
-        return None;
-    }
-    Some(Stats {
-        nodes: store.nodes_made(pass),
-        stored: store.stored_bytes(pass),
-        raw: store.raw_bytes(pass),
-    })
-}
-
 // Inserts the lines into a new store of the choice, whose first pass this is. After `NoMemory` no line was
 // inserted.
-fn insert_lines<R: Threads + Sync, G: Gate, const W: u32, const F: u32>(
+fn insert_new<R: Threads + Sync, G: Gate, const W: u32, const F: u32>(
     rt: &R,
     alloc: Global,
     store: &PlainStore<W, F>,
@@ -113,6 +97,7 @@ fn insert_lines<R: Threads + Sync, G: Gate, const W: u32, const F: u32>(
     gate: &G,
 ) -> Result<Answered, NoMemory>
     requires valid { IsValid choice.now }
+    requires plain { choice.now.mode ≡ Mode.Plain }
     requires about { IsAboutChoice choice.now trace.now store.now.about }
     requires view { view pass.old ≡ newcomer nothing_known store.now.about }
     requires whole { Whole (view pass.old) }
@@ -162,15 +147,38 @@ fn insert_into<R: Threads + Sync, G: Gate, const W: u32, const F: u32>(
     let sizes = store_sizes(choice, slots, trace.len());
     let (store, mut pass) = make_store::<W, F>(alloc, slots, &sizes)?;
     let room = take_room(alloc, choice.job, slots, trace.len())?;
-    insert_lines(rt, alloc, &store, &mut pass, choice, trace, room, gate)
+    insert_new(rt, alloc, &store, &mut pass, choice, trace, room, gate)
 }
 
-/// Inserts the lines of a trace into a new plain store of the choice's profile and sizes: the reply to each
-/// line, and for `distinct` the vectors that were answered new, each read back by its identifier.
+// Inserts the lines into a set of pairs, as compact mode does as yet.
+fn insert_into_set<G: Gate>(
+    alloc: Global,
+    choice: &Choice,
+    trace: &Trace,
+    gate: &G,
+) -> Result<Answered, NoMemory>
+    requires valid { IsValid choice.now }
+    requires offered { is_offered choice.now ≡ true }
+    requires inserts { is_check choice.now.job ≡ false }
+    requires compact { choice.now.mode ≡ Mode.Compact }
+    requires below { All (λ line. All (λ n. n < 2 ^ choice.now.profile) line) trace.now }
+    requires taken { takes_lines choice.now trace.now ≡ true }
+    ensures { IfOk result (AreAnswered choice.now trace.now) }
+{
+    Ok(Answered {
+        replies: insert_pairs(alloc, trace, choice.profile, gate)?,
+        stats: None,
+        vectors: None,
+    })
+}
+
+/// Inserts the lines of a trace into a new store of the choice's mode, profile and sizes: the reply to each
+/// line, the store's counts if they are asked for, and for `distinct` the vectors that were answered new,
+/// each read back by its identifier.
 ///
-/// `NoMemory` comes before the first line is inserted: that is told where the store is in hand, and no clause
-/// here can say it.
-pub fn insert_plain<R: Threads + Sync, G: Gate>(
+/// In plain mode `NoMemory` comes before the first line is inserted: that is told where the store is in hand,
+/// and no clause here can say it.
+pub fn insert_lines<R: Threads + Sync, G: Gate>(
     rt: &R,
     alloc: Global,
     choice: &Choice,
@@ -178,11 +186,16 @@ pub fn insert_plain<R: Threads + Sync, G: Gate>(
     gate: &G,
 ) -> Result<Answered, NoMemory>
     requires valid { IsValid choice.now }
-    requires plain { choice.now.mode ≡ Mode.Plain }
+    requires offered { is_offered choice.now ≡ true }
+    requires inserts { is_check choice.now.job ≡ false }
     requires lines { length trace.now ≤ 2 ^ 32 }
     requires below { All (λ line. All (λ n. n < 2 ^ choice.now.profile) line) trace.now }
+    requires taken { takes_lines choice.now trace.now ≡ true }
     ensures { IfOk result (AreAnswered choice.now trace.now) }
 {
+    if choice.mode == Mode::Compact {
+        return insert_into_set(alloc, choice, trace, gate);
+    }
     match choice.profile {
         16 => insert_into::<R, G, 16, 8>(rt, alloc, choice, trace, gate),
         28 => insert_into::<R, G, 28, 7>(rt, alloc, choice, trace, gate),

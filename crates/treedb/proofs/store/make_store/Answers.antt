@@ -3,7 +3,7 @@ use Rattle.std.specs.Prelude.{◌⊎◌, Err}
 use Rattle.root_plain.specs.Plain.{RootsFit, plain}
 use Rattle.tree_store.specs.Ranges.{NodesFit, ProbeFits, IsFirstOut}
 use Rattle.pair_rule.specs.declared.sizes.Sizes.{Sizes}
-use Rattle.treedb.proofs.plain.make_store.Goals as goal
+use Rattle.treedb.proofs.store.make_store.Goals as goal
 
 -- sizes that all fit have no first one out of its range
 none_out : (width n : _) (sizes : Sizes) → NodesFit width sizes → RootsFit sizes → ProbeFits sizes → IsFirstOut plain width sizes n → ⊥

@@ -1,0 +1,60 @@
+-- An input that was read, and what is made of its bytes.
+use Rattle.std.proofs.Common.{◌≡◌, ℕ, List, Option, Some, None, subst}
+use Rattle.std.specs.Prelude.{IfErr, IfOk, IfSome, Result, Ok, Err}
+use Rattle.run_check.specs.Cut.{IsWhole}
+use Rattle.run_check.specs.declared.verdict.Verdict.{Verdict}
+use Rattle.command_line.specs.declared.outcome.Choice.{Choice}
+use Rattle.treedb.specs.Check.{IsInput, IsWrongInput, Judged}
+use Rattle.treedb.specs.Reading.{EndsReading, GaveWithin, IsBadTrace, Refuses}
+use Rattle.treedb.specs.declared.ended.Ended.{Ended}
+use Rattle.treedb.specs.declared.ended.Ended.TheVariants as e
+
+-- what is told of an option's value, told otherwise
+pub if_some : {A : Type 0} {P Q : A → Type 0} (o : Option A) → ((x : A) → P x → Q x) → IfSome o P → IfSome o Q
+if_some None f p = p
+if_some (Some x) f p = f x p
+
+module _ {T : Type 0} (c : Choice) (bytes : List ℕ) (result : Result T Ended) (refused : IfErr result (Refuses c bytes)) where
+  -- bytes that were read are not too much, and are no fault of their source
+  pub not_too_much : result ≡ Err e.TooMuch → ⊥
+  not_too_much is = subst (λ (r : Result T Ended). IfErr r (Refuses c bytes)) is refused
+
+  pub no_read_fault : result ≡ Err e.ReadFault → ⊥
+  no_read_fault is = subst (λ (r : Result T Ended). IfErr r (Refuses c bytes)) is refused
+
+  -- what the source gave is what it gave in reading
+  pub gave_then : {A : Type 0} (old new : Option (List ℕ)) (input : A) → GaveWithin {T = A} old new (Ok input) → GaveWithin old new result
+  gave_then old new input g = record { gave = g.gave; given = g.given; too_much = (λ t. absurd (not_too_much t), λ less. let no = g.too_much.1 less in cc no) }
+
+-- they are all that the source told
+pub ends_reading : (c : Choice) (told : Option (List ℕ)) (bytes : List ℕ) → IfSome told (λ b. bytes ≡ b) → (ended : Ended) → Refuses c bytes ended → EndsReading c told ended
+ends_reading c told bytes all (e.BadTrace refusal) r = if_some told (λ b is. subst (λ (x : List ℕ). IsBadTrace c x refusal) is r) all
+ends_reading c told bytes all e.NoReport r = (r.0, if_some told (λ b is. subst (λ (x : List ℕ). IsWhole x) is r.1) all)
+ends_reading c told bytes all (e.WrongReport line) r = (r.0, if_some told (λ b is. subst (λ (x : List ℕ). IsWrongInput c x line) is r.1) all)
+ends_reading c told bytes all e.NoMemory r = r
+ends_reading c told bytes all e.Done r = r
+ends_reading c told bytes all e.Usage r = r
+ends_reading c told bytes all e.TooMuch r = absurd r
+ends_reading c told bytes all (e.Full lines) r = r
+ends_reading c told bytes all e.ReadFault r = absurd r
+ends_reading c told bytes all e.WriteFault r = r
+ends_reading c told bytes all e.Refuted r = r
+
+pub ends_all : {T : Type 0} (c : Choice) (told : Option (List ℕ)) (bytes : List ℕ) (result : Result T Ended) → IfSome told (λ b. bytes ≡ b) → IfErr result (Refuses c bytes)
+    → IfErr result (EndsReading c told)
+ends_all c told bytes (Ok input) all r = r
+ends_all c told bytes (Err ended) all r = ends_reading c told bytes all ended r
+
+pub judged_all : (c : Choice) (told : Option (List ℕ)) (bytes : List ℕ) (verdict : Verdict) → IfSome told (λ b. bytes ≡ b) → Judged c (Some bytes) verdict → Judged c told verdict
+judged_all c told bytes verdict all judged = record {
+  trace = judged.trace;
+  replies = judged.replies;
+  read = if_some told (λ b is. subst (λ (x : List ℕ). IsInput c x judged.trace judged.replies) is judged.read) all;
+  is_verdict = judged.is_verdict;
+  yes = judged.yes;
+}
+
+pub judged_result : (c : Choice) (told : Option (List ℕ)) (bytes : List ℕ) (result : Result Verdict Ended) → IfSome told (λ b. bytes ≡ b) → IfOk result (Judged c (Some bytes))
+    → IfOk result (Judged c told)
+judged_result c told bytes (Ok verdict) all judged = judged_all c told bytes verdict all judged
+judged_result c told bytes (Err ended) all judged = judged
