@@ -42,7 +42,7 @@ pub record IsFree (slots : List ℕ) (hash slot : ℕ) : Type 0 where
   pub before : (t : ℕ) → t < step → slice_index slots (probe (length slots) hash t) ≢ 0
 
 -- a slot has a line where it has the number after the line's
-pub record Stands (slots : List ℕ) (hash line : ℕ) : Type 0 where
+pub record HasSlot (slots : List ℕ) (hash line : ℕ) : Type 0 where
   pub step : ℕ
   pub few : step < length slots
   pub here : slice_index slots (probe (length slots) hash step) ≡ line + 1
@@ -53,12 +53,12 @@ abbrev pub AreWithin : ℕ → List ℕ → Type 0
 AreWithin lines slots = (slot line : ℕ) → slice_index slots slot ≡ line + 1 → line < lines
 
 -- a table has the lines below a number that are answered new, by their vectors or by their identifiers
-pub record Kept (trace : List Vector) (replies : List Reply) (i : ℕ) (vectors : Bool) (slots : List ℕ)
+pub record HasLines (trace : List Vector) (replies : List Reply) (i : ℕ) (vectors : Bool) (slots : List ℕ)
     : Type 0 where
   pub some : 0 < length slots
   pub within : AreWithin i slots
   pub there : (line : ℕ) (key : Key) → line < i → HasKey trace replies line key → is_vector key ≡ vectors
-      → Stands slots (hash_of key) line
+      → HasSlot slots (hash_of key) line
 
 -- no line below a number has the key
 abbrev pub NoneHas : List Vector → List Reply → ℕ → Key → Type 0
@@ -93,4 +93,4 @@ PutAt old p.Full line new = ⊥
 -- what a search in a table finds, where it has the lines below a number
 abbrev pub IsFound : List Vector → List Reply → Key → List ℕ → Place → Type 0
 IsFound trace replies key slots place =
-    (i : ℕ) → Kept trace replies i (is_vector key) slots → IsPlaceOf trace replies i key slots place
+    (i : ℕ) → HasLines trace replies i (is_vector key) slots → IsPlaceOf trace replies i key slots place
