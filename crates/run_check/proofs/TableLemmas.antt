@@ -11,7 +11,7 @@ use Rattle.tdb_base.specs.declared.reply.Reply.{Reply}
 use Rattle.tdb_base.specs.declared.reply.Reply.TheVariants as r
 use Rattle.tdb_base.proofs.ListLemmas.{before-or-last}
 use Rattle.run_check.specs.Reached.{Line}
-use Rattle.run_check.specs.Table.{HasKey, IsFree, HasLines, NoneHas, HasSlot, hash_of, is_vector, mixed, probe, vector_hash}
+use Rattle.run_check.specs.Table.{HasKey, IsFree, IsTableOf, NoneHas, HasSlot, hash_of, is_vector, mixed, probe, vector_hash}
 use Rattle.run_check.specs.declared.table.Key.{Key}
 use Rattle.run_check.specs.declared.table.Key.TheVariants as k
 use Rattle.run_check.proofs.Dealt.{line-reply, line-vector, new-id}
@@ -23,7 +23,7 @@ same-hash trace replies i (k.Vector v) (k.Identifier b) one other e = cc e
 same-hash trace replies i (k.Identifier a) (k.Vector w) one other e = cc e
 same-hash trace replies i (k.Identifier a) (k.Identifier b) one other e = ap (λ (id : ℕ). mixed id 0) (new-id a b (line-reply trace replies i one.0 other.0 (r.New a) (r.New b) one.1 other.1))
 
-pub kept-none : (trace : List Vector) (replies : List Reply) (vectors : Bool) (n : ℕ) (slots : List ℕ) → slots ≡ replicate (n + 1) 0 → HasLines trace replies 0 vectors slots
+pub kept-none : (trace : List Vector) (replies : List Reply) (vectors : Bool) (n : ℕ) (slots : List ℕ) → slots ≡ replicate (n + 1) 0 → IsTableOf trace replies 0 vectors slots
 kept-none trace replies vectors n slots e = record {
   some = (let size = ap length e ∙ length-replicate (n + 1) 0 in omega arith);
   within = λ slot line here. absurd (empty slot line here);
@@ -37,7 +37,7 @@ kept-none trace replies vectors n slots e = record {
         by (inl lt) = let none = ap (λ (t : List ℕ). get_or t slot 0) e ∙ get_or-replicate (n + 1) slot 0 0 lt in omega arith
         by (inr past) = let size : length (replicate {A = ℕ} (n + 1) 0) ≡ n + 1 = length-replicate (n + 1) 0 in let none = ap (λ (t : List ℕ). get_or t slot 0) e ∙ get_or_past (replicate (n + 1) 0) slot 0 (omega (arith, size, past)) in omega arith
 
-module _ (trace : List Vector) (replies : List Reply) (i : ℕ) (key : Key) (slots : List ℕ) (kept : HasLines trace replies i (is_vector key) slots) where
+module _ (trace : List Vector) (replies : List Reply) (i : ℕ) (key : Key) (slots : List ℕ) (kept : IsTableOf trace replies i (is_vector key) slots) where
   -- so many slots are looked at, and have other lines
   abbrev pub Passed : ℕ → Type 0
   Passed steps = (t : ℕ) → t < steps → (line : ℕ) → get_or slots (probe (length slots) (hash_of key) t) 0 ≡ line + 1 → HasKey trace replies line key → ⊥
@@ -65,8 +65,8 @@ module _ (trace : List Vector) (replies : List Reply) (i : ℕ) (key : Key) (slo
       let stands = kept.there line key lt has refl in
       passed stands.step stands.few line stands.here has
 
-  pub kept-more : (slot : ℕ) (new : List ℕ) → IsFree slots (hash_of key) slot → HasKey trace replies i key → new ≡ set slots slot (i + 1) → slot < length slots → HasLines trace replies (i + 1) (is_vector key) new
-  kept-more slot new free has e inside = subst (HasLines trace replies (i + 1) (is_vector key)) (sym e) (record {
+  pub kept-more : (slot : ℕ) (new : List ℕ) → IsFree slots (hash_of key) slot → HasKey trace replies i key → new ≡ set slots slot (i + 1) → slot < length slots → IsTableOf trace replies (i + 1) (is_vector key) new
+  kept-more slot new free has e inside = subst (IsTableOf trace replies (i + 1) (is_vector key)) (sym e) (record {
     some = (let some = kept.some in let e = size in omega arith);
     within = λ at line here. within at line here (cases_eq at slot);
     there = λ line other lt its kind. there line other its kind (before-or-last line i lt);
@@ -113,8 +113,8 @@ module _ (trace : List Vector) (replies : List Reply) (i : ℕ) (key : Key) (slo
           (λ t lt. keeps (probe (length slots) (hash_of key) t) (free.before t lt)))
 
 -- a line that isn't answered new
-pub kept-other : (trace : List Vector) (replies : List Reply) (i : ℕ) (vectors : Bool) (slots : List ℕ) → HasLines trace replies i vectors slots → ((key : Key) → HasKey trace replies i key → ⊥)
-    → HasLines trace replies (i + 1) vectors slots
+pub kept-other : (trace : List Vector) (replies : List Reply) (i : ℕ) (vectors : Bool) (slots : List ℕ) → IsTableOf trace replies i vectors slots → ((key : Key) → HasKey trace replies i key → ⊥)
+    → IsTableOf trace replies (i + 1) vectors slots
 kept-other trace replies i vectors slots kept none = record {
   some = kept.some;
   within = λ slot line here. (let less = kept.within slot line here in omega arith);
@@ -179,11 +179,11 @@ module _ (trace : List Vector) (replies : List Reply) (key : Key) (slots : List 
           let same : line ≡ entry - 1 = omega arith in
           other (subst (λ (n : ℕ). HasKey trace replies n key) same has)
 
-  pub place-free : entry ≡ 0 → step < length slots → (i : ℕ) → HasLines trace replies i (is_vector key) slots → NoneHas trace replies i key × IsFree slots (hash_of key) slot
+  pub place-free : entry ≡ 0 → step < length slots → (i : ℕ) → IsTableOf trace replies i (is_vector key) slots → NoneHas trace replies i key × IsFree slots (hash_of key) slot
   place-free empty few i kept = (
     none-at-free trace replies i key slots kept step old.passed (sym here ∙ empty),
     record { step = step; few = few; place = at; empty = sym value ∙ empty; before = old.filled },
   )
 
-  pub place-line : entry ≢ 0 → HasKey trace replies (entry - 1) key → (i : ℕ) → HasLines trace replies i (is_vector key) slots → (entry - 1 < i) × HasKey trace replies (entry - 1) key
+  pub place-line : entry ≢ 0 → HasKey trace replies (entry - 1) key → (i : ℕ) → IsTableOf trace replies i (is_vector key) slots → (entry - 1 < i) × HasKey trace replies (entry - 1) key
   place-line some has i kept = (kept.within slot (entry - 1) (let same : entry - 1 + 1 ≡ entry = omega arith in sym (same ∙ value)), has)

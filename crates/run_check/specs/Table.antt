@@ -53,7 +53,7 @@ abbrev pub AreWithin : ℕ → List ℕ → Type 0
 AreWithin lines slots = (slot line : ℕ) → slice_index slots slot ≡ line + 1 → line < lines
 
 -- a table has the lines below a number that are answered new, by their vectors or by their identifiers
-pub record HasLines (trace : List Vector) (replies : List Reply) (i : ℕ) (vectors : Bool) (slots : List ℕ)
+pub record IsTableOf (trace : List Vector) (replies : List Reply) (i : ℕ) (vectors : Bool) (slots : List ℕ)
     : Type 0 where
   pub some : 0 < length slots
   pub within : AreWithin i slots
@@ -93,4 +93,4 @@ PutAt old p.Full line new = ⊥
 -- what a search in a table finds, where it has the lines below a number
 abbrev pub IsFound : List Vector → List Reply → Key → List ℕ → Place → Type 0
 IsFound trace replies key slots place =
-    (i : ℕ) → HasLines trace replies i (is_vector key) slots → IsPlaceOf trace replies i key slots place
+    (i : ℕ) → IsTableOf trace replies i (is_vector key) slots → IsPlaceOf trace replies i key slots place
