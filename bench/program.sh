@@ -54,14 +54,17 @@ done
 
 # phases NAME TRACE REGEX..: instructions a line in the functions that these expressions find, each with all that it calls
 count() { valgrind --tool=callgrind --callgrind-out-file="$out/cg" "$@" > /dev/null 2>&1; }
-phase() { callgrind_annotate --inclusive=yes --threshold=100 "$out/cg" | awk -v what="$1" -v lines="$2" '$0 ~ what { gsub(",", "", $1); if ($1 > most) most = $1 } END { printf " %d |", most / lines }'; }
+within() { callgrind_annotate --inclusive=yes --threshold=100 "$out/cg" | awk -v what="$1" '$0 ~ what { gsub(",", "", $1); if ($1 > most) most = $1 } END { print most + 0 }'; }
+phase() { printf ' %d |' $(($(within "$1") / $2)); }
 lines=50000
 echo "| instructions a line | reading | insertion | printing |"
 echo "|---|---|---|---|"
 for trace in M R; do
   head -$lines "$out/t/$trace" > "$out/head"
   count "$program" insert < "$out/head"
-  echo "| treedb, $trace |$(phase 'input::take_trace' $lines)$(phase 'thread::fork' $lines)$(phase 'output::write_answers' $lines)"
+  reading=$(($(within 'input::bytes_of') + $(within 'input::lines_of')))
+  printing=$(($(within 'job::do_job') - reading - $(within 'store::insert_lines')))
+  echo "| treedb, $trace | $((reading / lines)) |$(phase 'thread::fork' $lines) $((printing / lines)) |"
   count "$out/treeyard" insert < "$out/head"
   echo "| twin, $trace |$(phase ':parse[(]' $lines)$(phase 'lambda[(]unsigned long[)]#2' $lines)$(phase 'write_replies' $lines)"
   # it reads the trace five times

@@ -8,4 +8,5 @@ pub mod Stores
 pub mod Outcomes
 pub mod ReadBackLemmas
 pub mod NewLemmas
+pub mod Complete
 pub mod Ending

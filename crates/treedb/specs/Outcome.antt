@@ -1,5 +1,6 @@
 -- All that is told of a run's end.
-use Rattle.std.specs.Prelude.{◌≡◌, ◌≢◌, ◌⊎◌, ℕ, Bool, true, false, List, Option, None, IfSome, count_by}
+use Rattle.std.specs.Prelude.{◌≡◌, ◌≢◌, ◌⊎◌, ◌≤◌, ℕ, Bool, true, false, List, Option, Some, None, IfSome}
+use Rattle.std.specs.Prelude.{count_by, length}
 use Rattle.std.specs.Io.KnownBytes.{Appends, IsAtEnd}
 use Rattle.tdb_base.specs.Causes.{Rose}
 use Rattle.tdb_base.specs.History.{Vector}
@@ -8,10 +9,12 @@ use Rattle.tdb_base.specs.declared.reply.Reply.{Reply}
 use Rattle.tdb_base.specs.declared.reply.Status.{Status}
 use Rattle.tdb_base.specs.declared.reply.Status.TheVariants as s
 use Rattle.command_line.specs.declared.outcome.Choice.{Choice}
-use Rattle.command_line.specs.declared.outcome.Job.TheVariants.{Check}
+use Rattle.command_line.specs.declared.outcome.Job.{Job}
+use Rattle.command_line.specs.declared.outcome.Job.TheVariants.{Insert, Distinct, Bench, Check}
 use Rattle.treedb.specs.Check.{IsInput, PrintsVerdict, PrintsVerdictFront}
-use Rattle.treedb.specs.Lines.{HasNoTrace, is_reader}
+use Rattle.treedb.specs.Lines.{HasNoTrace, is_reader, read_lines}
 use Rattle.treedb.specs.Offered.{is_check}
+use Rattle.trace_csv.specs.Input.{limit}
 use Rattle.trace_csv.specs.Output.{TakesFront}
 use Rattle.treedb.specs.Note.{has_note, note_text, status_of}
 use Rattle.treedb.specs.Reading.{EndsReading}
@@ -94,6 +97,20 @@ pub record Outcome {S K : Type 0} (offer : Option Choice) (source : SourceStep S
   pub bad_report : status ≡ s.BadReport
       → IfSome offer (λ c. (c.job ≡ Check) × IfSome (source.left source.old) (HasNoReport c))
 
+-- bytes that are a valid input: a trace that the choice takes, and for a check a report of its lines too
+abbrev pub IsValidInput : Job → Choice → List ℕ → Type 0
+IsValidInput Insert c bytes = (lines : List Vector) × (read_lines c bytes ≡ Some lines)
+IsValidInput Distinct c bytes = (lines : List Vector) × (read_lines c bytes ≡ Some lines)
+IsValidInput Bench c bytes = Unit {0}
+IsValidInput Check c bytes = (trace : List Vector) × (replies : List Reply) × IsInput c bytes trace replies
+
+-- where nothing failed, and the input is valid and within the limit, the text was written, or memory ran out
+abbrev pub IsComplete : {S K : Type 0} → Option Choice → SourceStep S → SinkStep K → Status → Type 0
+IsComplete offer source sink status = (Rose (source.faults source.old) (source.faults source.new) → ⊥)
+    → (Rose (sink.faults sink.old) (sink.faults sink.new) → ⊥)
+    → IfSome offer (λ c. IfSome (source.left source.old) (λ bytes. length bytes ≤ limit
+    → IsValidInput c.job c bytes → (is_printed status ≡ true) ⊎ (status ≡ s.NoMemory)))
+
 -- the same, and what is told beside the status
 pub record EndsAs {S K : Type 0} (offer : Option Choice) (source : SourceStep S) (sink : SinkStep K)
     (ended : Ended) : Type 0 where
@@ -123,6 +140,8 @@ pub record RunEnds {S K N : Type 0} (offer : Option Choice) (source : SourceStep
       (λ run text. Headline run text)
   -- and that there is such a run, and what else became of source and sink
   pub outcome : Outcome offer source sink status
+  -- that a run of a valid input comes through follows from it
+  pub complete : IsComplete offer source sink status
   -- the note of the end, which is handed on whole; there is none for `Done` and `Refuted`
   pub note : IsNote offer source sink notes status
   pub note_settled : has_note status ≡ true → (Rose (notes.faults notes.old) (notes.faults notes.new) → ⊥)

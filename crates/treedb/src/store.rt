@@ -86,7 +86,7 @@ fn make_store<const W: u32, const F: u32>(
 
 // Inserts the lines into a new store of the choice, whose first pass this is. After `NoMemory` no line was
 // inserted.
-fn insert_new<R: Threads + Sync, G: Gate, const W: u32, const F: u32>(
+fn fill_store<R: Threads + Sync, G: Gate, const W: u32, const F: u32>(
     rt: &R,
     alloc: Global,
     store: &PlainStore<W, F>,
@@ -147,7 +147,7 @@ fn insert_into<R: Threads + Sync, G: Gate, const W: u32, const F: u32>(
     let sizes = store_sizes(choice, slots, trace.len());
     let (store, mut pass) = make_store::<W, F>(alloc, slots, &sizes)?;
     let room = take_room(alloc, choice.job, slots, trace.len())?;
-    insert_new(rt, alloc, &store, &mut pass, choice, trace, room, gate)
+    fill_store(rt, alloc, &store, &mut pass, choice, trace, room, gate)
 }
 
 // Inserts the lines into a set of pairs, as compact mode does as yet.

@@ -8,8 +8,8 @@ use Rattle.treedb.specs.Stored.{IsAboutChoice}
 use Rattle.treedb.specs.ReadBack.{AwaitsLines, IfPrinted}
 use Rattle.treedb.proofs.store.insert_into.Goals as goal
 
-pub insert_new-requires : goal.insert_new-requires
-insert_new-requires g c =
+pub fill_store-requires : goal.fill_store-requires
+fill_store-requires g c =
     let choice = c.args.choice.now in
     let trace = c.args.trace.now in
     let made = c.in_ok-store.ensures in

@@ -13,7 +13,7 @@ use Rattle.treedb.specs.Run.{IsOfMode}
 use Rattle.treedb.specs.ReadBack.{AwaitsLines, IsReadBack, IsReadBy, ReadsInto, new_id, new_ids}
 use Rattle.treedb.proofs.NewLemmas.{if-printed, if-some, new-named, read-back, read-into, read-renamed}
 use Rattle.treedb.proofs.Stores.{own_agrees, agrees_run, in_store_run, history}
-use Rattle.treedb.proofs.store.insert_new.Goals as goal
+use Rattle.treedb.proofs.store.fill_store.Goals as goal
 
 pub read_back-vectors-requires : goal.read_back-vectors-requires
 read_back-vectors-requires g c =
