@@ -1,6 +1,5 @@
 -- A put after a look that found nothing is one put.
 use Rattle.std.proofs.Common.{◌≡◌, ℕ, [], ◌∷◌, Bool, ap, subst}
-
 use Rattle.pair_rule.specs.declared.pass.PassOf.{PassOf}
 use Rattle.pair_rule.specs.Part.{Part, Store}
 use Rattle.pair_rule.specs.Rest.{view}

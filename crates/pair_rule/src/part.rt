@@ -9,6 +9,7 @@ pub trait RootPart<const W: u32, const F: u32> {
     ghost use Rattle.std.specs.Prelude.{true, false, ◌⊎◌, ◌↔◌, Some, None};
     ghost use mathlib.Core.Option.{some};
     ghost use lib.ListN.{get_elem?};
+    ghost use Rattle.packed_word.specs.Word.{IsLayout};
     ghost use Rattle.tree_shape.specs.Tree.{Has, IsPart};
     ghost use Rattle.tdb_base.specs.History.{History};
     ghost use Rattle.tdb_base.specs.Legal.{IsLegal, Extends};
@@ -38,6 +39,7 @@ pub trait RootPart<const W: u32, const F: u32> {
     /// The number of the first of the table's sizes that is out of its range: 2 is that of the roots, 3 that
     /// of a region.
     fn first_out(sizes: &Sizes) -> Option<u32>
+        requires { IsLayout W F }
         ensures out { (n : ℕ) → (result ≡ Some n) ↔ part.is_out sizes.now n }
         ensures sized { (result ≡ None) ↔ part.sized sizes.now };
 

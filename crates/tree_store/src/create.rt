@@ -36,6 +36,7 @@ fn probe_fits(sizes: &Sizes) -> bool
 
 // The number of the first size that is out of its range.
 fn first_out<R: RootPart<W, F>, const W: u32, const F: u32>(sizes: &Sizes) -> Option<u32>
+    requires { IsLayout W F }
     ensures out { (n : ℕ) → (result ≡ Some n) ↔ IsFirstOut R.part W sizes.now n }
     ensures fit { result ≡ None → NodesFit W sizes.now × R.part.sized sizes.now × ProbeFits sizes.now }
 {
