@@ -1,0 +1,5 @@
+pub mod Layout
+pub mod Maps
+pub mod Compact
+pub mod Names
+pub mod Laws

@@ -1,0 +1,7 @@
+//! The root table of compact mode: roots in the cells of regions, each region under a lock of one word.
+#![tactic(auto)]
+
+mod root;
+mod words;
+
+pub use root::{CompactRoot, Holding, Reading, Regions};
