@@ -12,7 +12,7 @@ use Rattle.pair_rule.specs.Part.{Part}
 use Rattle.region_root.specs.declared.root.Regions.{Regions}
 use Rattle.region_root.specs.declared.root.Holding.{Holding}
 use Rattle.region_root.specs.declared.root.Reading.{Reading}
-use Rattle.region_root.specs.Layout.{IsSized, count, regions, words_each, most, lock_of, part, IsPacked, KeepsRoots}
+use Rattle.region_root.specs.Layout.{IsSized, count, regions, most, lock_of, part, IsPacked, KeepsRoots}
 use Rattle.region_root.specs.Maps.{roots_of, IsMapOf, FewEach, IsFull}
 
 -- A lock word is even where its region is free, and odd where it is held.
@@ -48,7 +48,6 @@ pub record Holds (about : About) (log : History) (ws : List ℕ) (h : Holding) :
 -- while it is still that value, what was loaded stands in the region's words.
 pub record Reads (about : About) (ws : List ℕ) (q : Reading) : Type 0 where
   pub inside : q.region < regions about
-  pub near : (i n : ℕ) → Has (i, n) q.loads → i < words_each about
   pub above : IsEven q.first → q.first < last → q.first ≤ lock_of ws q.region
   pub same : IsEven q.first → q.first < last → lock_of ws q.region ≡ q.first
       → (i n : ℕ) → Has (i, n) q.loads → slice_index (part about ws q.region) i ≡ n

@@ -3,3 +3,4 @@ pub mod Maps
 pub mod Compact
 pub mod Names
 pub mod Laws
+pub mod Plays
