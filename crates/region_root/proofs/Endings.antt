@@ -1,6 +1,6 @@
 -- How the history goes on where a call on a region ends, and that every region then has the map that it should.
-use Rattle.std.proofs.Common.{◌≡◌, ◌≢◌, ◌⊎◌, ℕ, ◌<◌, ◌≤◌, List, [], ◌∷◌, ◌++◌, length, Bool, true, false, Option, Some, None, refl, sym, ap, ◌∙◌, subst, inl, inr, ⊎_elim, append-nil}
-use Rattle.tree_shape.specs.Tree.{Has, IsNaming, RootStands, IsPart}
+use Rattle.std.proofs.Common.{◌≡◌, ◌≢◌, ℕ, List, [], ◌∷◌, ◌++◌, length, Bool, true, false, Option, Some, None, refl, sym, ap, ◌∙◌, subst, ⊎_elim, append-nil}
+use Rattle.tree_shape.specs.Tree.{Has, IsNaming, RootStands}
 use Rattle.tree_shape.proofs.Trees.{one_root}
 use Rattle.tdb_base.specs.History.{Vector, Act, Put, Set, Clear, Look, Entry, History, is_fresh, names, name_of, flags_of, flags_after}
 use Rattle.tdb_base.specs.Legal.{Allows, IsLegal}

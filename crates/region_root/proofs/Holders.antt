@@ -1,5 +1,5 @@
 -- The steps of a holder keep the rule: it takes a region, loads and stores its words, and gives it back.
-use Rattle.std.proofs.Common.{◌≡◌, ◌≢◌, ◌⊎◌, ℕ, suc, ◌+◌, ◌-◌, ◌<◌, List, [], ◌∷◌, ◌++◌, length, set, get_or, true, false, refl, sym, ap, ◌∙◌, subst, inl, inr, ⊎_elim, eqb, arith, length-set}
+use Rattle.std.proofs.Common.{◌≡◌, ℕ, suc, ◌+◌, ◌-◌, ◌<◌, List, [], ◌∷◌, ◌++◌, length, set, get_or, true, false, refl, sym, ap, ◌∙◌, subst, inl, ⊎_elim, eqb, arith, length-set}
 use mathlib.Core.Option.{none, some}
 use lib.ListN.{get_elem?}
 use lib.Seq.{set-get_or}
@@ -7,18 +7,16 @@ use prog.Atomic.{either}
 use Rattle.atomic_table.specs.Table.{State, Me, Act, Valid, carried_after, step, keeps, stepped, Allows}
 use Rattle.atomic_table.proofs.Lists.{exchanged, set_again}
 use Rattle.tree_shape.specs.Tree.{Has}
-use Rattle.tdb_base.specs.History.{History}
 use Rattle.pair_rule.specs.declared.view.View.{View}
 use Rattle.pair_rule.specs.declared.sizes.About.{About}
-use Rattle.pair_rule.specs.Rule.{at, Kept}
 use Rattle.pair_rule.specs.Plays.{first_root}
 use Rattle.pair_rule.proofs.Advance.{catch, stays}
 use Rattle.region_root.specs.declared.root.Regions.{Regions}
 use Rattle.region_root.specs.declared.root.Holding.{Holding}
 use Rattle.region_root.specs.Layout.{regions, words_each, lock_of, start, part, KeepsRoots}
-use Rattle.region_root.specs.Maps.{IsMapOf, InRegion}
-use Rattle.region_root.specs.Compact.{IsEven, IsOdd, last, Holds, Compact}
-use Rattle.region_root.specs.Plays.{part_of, Ending, MayEnd, Told, holding, recopied, IsNext, place_in, Taken, takes_tells, copies_tells, stores_tells, Frees, frees_tells}
+use Rattle.region_root.specs.Maps.{InRegion}
+use Rattle.region_root.specs.Compact.{IsEven, IsOdd, last, Compact}
+use Rattle.region_root.specs.Plays.{part_of, Ending, MayEnd, Told, holding, recopied, IsNext, place_in, Taken, takes_tells, copies_tells, stores_tells, frees_tells}
 use Rattle.region_root.proofs.Parts.{part_word, part_long}
 use Rattle.region_root.proofs.Rules.{Moves, takes_root, frees_root, stores_root}
 use Rattle.region_root.proofs.Catching.{head_of, in_region, Rule, behind, first, word_at, behind_set, nodes_stay, catches_up}

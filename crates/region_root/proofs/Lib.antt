@@ -5,3 +5,6 @@ pub mod Endings
 pub mod Catching
 pub mod Holders
 pub mod Readers
+pub mod Tables
+pub mod Working
+pub mod Resting

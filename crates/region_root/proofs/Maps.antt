@@ -1,10 +1,10 @@
 -- What an act on a root does to the maps of all regions.
-use Rattle.std.proofs.Common.{◌≡◌, ◌≢◌, ◌⊎◌, ℕ, ◌<◌, List, [], ◌∷◌, ◌++◌, length, Bool, true, false, Option, Some, None, refl, sym, ap, ◌∙◌, subst, inl, inr, ⊎_elim, eqb, eq-eqb, ne_eqb}
+use Rattle.std.proofs.Common.{◌≡◌, ◌≢◌, ◌⊎◌, ℕ, List, [], ◌∷◌, ◌++◌, Bool, true, false, Some, None, refl, sym, ap, ◌∙◌, subst, inl, inr, ⊎_elim, eq-eqb, ne_eqb}
 use Rattle.std.specs.Prelude.{if◌then◌else◌, ◌==◌, ◌&&◌}
 use mathlib.Core.Logic.{dite}
 use native.Mathlib.Decide.{ℕ_discrete}
 use Rattle.tree_shape.specs.Tree.{Has}
-use Rattle.tdb_base.specs.History.{Vector, Act, Put, Set, Clear, Look, Entry, History, is_fresh, names, name_of, flags_of, flags_after, same, has_bit, with_bit, without_bit}
+use Rattle.tdb_base.specs.History.{Vector, Act, Put, Entry, History, is_fresh, names, name_of, flags_of, flags_after, same}
 use Rattle.tdb_base.specs.Legal.{Allows, IsLegal}
 use Rattle.tdb_base.proofs.NameLemmas.{name-push, names-this, names-differ, same-refl, same-equal, allowed-fresh, allowed-other}
 use Rattle.pair_rule.specs.declared.sizes.About.{About}

@@ -1,5 +1,5 @@
 -- The words of regions, and what one changed word leaves as it was.
-use Rattle.std.proofs.Common.{◌≡◌, ◌≢◌, ◌⊎◌, ℕ, zero, suc, ◌+◌, ◌*◌, ◌-◌, ◌<◌, ◌≤◌, List, [], ◌∷◌, ◌++◌, length, map, take, drop, set, get_or, true, false, refl, sym, ap, ◌∙◌, subst, inl, inr, ⊎_elim, arith, length-set, get_or-set_same, get_or-set_other, mul-le-mul_right, suc-mul}
+use Rattle.std.proofs.Common.{◌≡◌, ◌≢◌, ℕ, suc, ◌+◌, ◌*◌, ◌-◌, ◌<◌, ◌≤◌, List, [], ◌∷◌, length, take, drop, set, get_or, refl, sym, ap, ◌∙◌, subst, inl, ⊎_elim, arith, get_or-set_same, get_or-set_other, mul-le-mul_right, suc-mul}
 use Rattle.std.proofs.lemmas.List.{get_or-drop, get_or-take, drop-set-lt, drop-set-add, take-set-le, length-drop, length-take-le}
 use Rattle.std.proofs.Math.Seq.{take-set-lt}
 use mathlib.Core.Option.{some}

@@ -1,13 +1,13 @@
 -- The steps of a reader without a lock keep the rule; and what its second look at the lock word tells.
-use Rattle.std.proofs.Common.{◌≡◌, ◌≢◌, ◌⊎◌, ℕ, suc, ◌+◌, ◌-◌, ◌<◌, List, [], ◌∷◌, ◌++◌, length, set, get_or, true, false, true≢false, Some, None, refl, sym, ap, ◌∙◌, subst, inl, inr, ⊎_elim, arith}
+use Rattle.std.proofs.Common.{◌≡◌, ◌⊎◌, ℕ, suc, ◌+◌, ◌-◌, ◌<◌, List, [], ◌∷◌, ◌++◌, length, set, get_or, true, false, true≢false, Some, None, refl, sym, ap, ◌∙◌, subst, inl, inr, ⊎_elim, arith}
 use mathlib.Core.Option.{none, some}
 use mathlib.Core.Logic.{dite}
 use native.Mathlib.Decide.{ℕ_discrete, dec_lt}
 use lib.ListN.{get_elem?}
 use lib.Seq.{set-get_or}
-use Rattle.atomic_table.specs.Table.{State, Me, Act, Valid, carried_after, step, keeps, stepped, Allows}
+use Rattle.atomic_table.specs.Table.{State, Me, step, keeps, stepped, Allows}
 use Rattle.tree_shape.specs.Tree.{Has}
-use Rattle.tdb_base.specs.History.{Put, History}
+use Rattle.tdb_base.specs.History.{Put}
 use Rattle.pair_rule.specs.declared.view.View.{View}
 use Rattle.pair_rule.specs.declared.sizes.About.{About}
 use Rattle.pair_rule.specs.Plays.{first_root}
@@ -18,7 +18,7 @@ use Rattle.region_root.specs.Layout.{regions, words_each, lock_of, start, part, 
 use Rattle.region_root.specs.Maps.{IsMapOf, InRegion}
 use Rattle.region_root.specs.Compact.{IsEven, IsOdd, last, Reads, Free, Compact}
 use Rattle.region_root.specs.Laws.{even_or_odd}
-use Rattle.region_root.specs.Plays.{part_of, Ending, MayEnd, Told, reading, peeking, reloaded, seconded, place_in, Believes, Unchanged, Closed, peeks_tells, reads_tells, closes_tells}
+use Rattle.region_root.specs.Plays.{part_of, Ending, MayEnd, reading, peeking, reloaded, seconded, place_in, Believes, Unchanged, Closed, peeks_tells, reads_tells, closes_tells}
 use Rattle.region_root.proofs.Parts.{not_both, part_word, part_long}
 use Rattle.region_root.proofs.Rules.{quiet_root}
 use Rattle.region_root.proofs.Maps.{map_alike}
@@ -151,19 +151,27 @@ module _ (S : Type 0) (about : About) where
         let o = in_region about r.log (after s.words) s.views r.rooted g free.map free.is_map q.pair has.0 has.1 in
         let k = caught (Some (q.pair, Put false)) (o.0, o.1, (has, refl), (λ no. absurd (true≢false (sym no)))) in
         record {
-          view = k.after; rule = k.rule; busy_is = k.busy_is; root_is = k.root_is; no_olds = k.no_olds;
+          view = k.after;
+          rule = k.rule;
+          busy_is = k.busy_is;
+          root_is = k.root_is;
+          no_olds = k.no_olds;
           believes = record { words = words; long = long; loads_are = loads_now; map = free.map; keeps = keeps_now; inside = inside_now; answer = inr (has, k.told) };
         })
         (λ (no : (f : ℕ) → Has (q.pair, f) free.map → ⊥).
         let k = caught None refl in
         record {
-          view = k.after; rule = k.rule; busy_is = k.busy_is; root_is = k.root_is; no_olds = k.no_olds;
+          view = k.after;
+          rule = k.rule;
+          busy_is = k.busy_is;
+          root_is = k.root_is;
+          no_olds = k.no_olds;
           believes = record { words = words; long = long; loads_are = loads_now; map = free.map; keeps = keeps_now; inside = inside_now; answer = inl (no, k.told) };
         })
         (has_any q.pair free.map)
 
   -- whether it is to be believed
-  to_believe : (n : ℕ) (q : Reading) → Unchanged n q ⊎ (Unchanged n q → ⊥)
+  pub to_believe : (n : ℕ) (q : Reading) → Unchanged n q ⊎ (Unchanged n q → ⊥)
   to_believe n q = dite (ℕ_discrete n q.first)
       (λ same. dite (dec_lt n last)
       (λ low. ⊎_elim (λ (even : IsEven n). inl record { same = same; even = even; low = low }) (λ (odd : IsOdd n). inr (λ u. not_both n u.even odd)) (even_or_odd n))

@@ -1,5 +1,5 @@
 -- How the rule of regions goes on over the root words, the history and the views, step by step.
-use Rattle.std.proofs.Common.{◌≡◌, ◌≢◌, ◌⊎◌, ℕ, suc, ◌+◌, ◌*◌, ◌-◌, ◌<◌, ◌≤◌, List, [], ◌∷◌, length, map, set, Some, true, true≢false, false, refl, sym, ap, ◌∙◌, subst, inl, inr, ⊎_elim, arith, length-set, get_or-set_same}
+use Rattle.std.proofs.Common.{◌≡◌, ◌≢◌, ℕ, suc, ◌+◌, ◌<◌, ◌≤◌, List, [], ◌∷◌, length, map, set, Some, true, true≢false, false, refl, sym, ap, ◌∙◌, subst, inl, ⊎_elim, arith, length-set, get_or-set_same}
 use mathlib.Core.Option.{some}
 use mathlib.Core.Logic.{dite}
 use native.Mathlib.Decide.{ℕ_discrete}
@@ -16,11 +16,11 @@ use Rattle.region_root.specs.declared.root.Holding.{Holding}
 use Rattle.region_root.specs.declared.root.Reading.{Reading}
 use Rattle.region_root.specs.Layout.{regions, words_each, lock_of, start, part, IsPacked, KeepsRoots}
 use Rattle.region_root.specs.Maps.{IsMapOf}
-use Rattle.region_root.specs.Compact.{IsEven, IsOdd, last, IsCompact, Holds, Reads, held_of, Viewed, Locks, Free, Compact}
+use Rattle.region_root.specs.Compact.{IsEven, IsOdd, last, Holds, Reads, held_of, Viewed, Locks, Free, Compact}
 use Rattle.region_root.specs.Names.{kept_few}
 use Rattle.region_root.specs.Laws.{held_there}
 use Rattle.region_root.specs.Plays.{holding, recopied}
-use Rattle.region_root.proofs.Parts.{not_both, start_below, part_lock, lock_cell, lock_other, part_same, part_other, held_lock, reads_lock, held_cell, reads_cell, locks_take, locks_free, locks_cell}
+use Rattle.region_root.proofs.Parts.{not_both, part_lock, lock_cell, lock_other, part_same, part_other, held_lock, reads_lock, held_cell, reads_cell, locks_take, locks_free, locks_cell}
 
 abbrev V : Type 0
 V = View Regions
@@ -64,7 +64,12 @@ takes_root about log ws views id v g n p e none inside lock even f =
           (λ (t : (j ≡ id) × (w ≡ u)). subst (Viewed about log (set ws g (suc n))) t.1 record {
             idle = λ b. absurd (true≢false b);
             holds = λ i a. ⊎_elim (λ (z : i ≡ h). subst (Holds about log (set ws g (suc n))) (sym z) record {
-              inside = inside; lock_is = get_or-set_same ws g (suc n) 0 long; odd = (even.0, ap suc even.1); copy_is = sym (part_lock about ws g g (suc n) inside); base_is = f.is_map; few = kept_few about (part about ws g) f.map f.keeps;
+              inside = inside;
+              lock_is = get_or-set_same ws g (suc n) 0 long;
+              odd = (even.0, ap suc even.1);
+              copy_is = sym (part_lock about ws g g (suc n) inside);
+              base_is = f.is_map;
+              few = kept_few about (part about ws g) f.map f.keeps;
             }) (λ (no : ⊥). absurd no) a;
             reads = λ q' a. reads_lock about ws g (suc n) q' inside long moves ((p.each id v e).reads q' a);
           })
@@ -133,7 +138,12 @@ stores_root about log ws views id v h i n p e holds busy near =
           (λ (t : (j ≡ id) × (w ≡ u)). subst (Viewed about log ws') t.1 record {
             idle = λ b. absurd (true≢false (sym busy ∙ b));
             holds = λ k a. ⊎_elim (λ (z : k ≡ h'). subst (Holds about log ws') (sym z) record {
-              inside = hv.inside; lock_is = lock_cell about ws g i g n hv.inside ∙ hv.lock_is; odd = hv.odd; copy_is = ap (λ (l : List ℕ). set l i n) hv.copy_is ∙ sym (part_same about ws g i n near); base_is = hv.base_is; few = hv.few;
+              inside = hv.inside;
+              lock_is = lock_cell about ws g i g n hv.inside ∙ hv.lock_is;
+              odd = hv.odd;
+              copy_is = ap (λ (l : List ℕ). set l i n) hv.copy_is ∙ sym (part_same about ws g i n near);
+              base_is = hv.base_is;
+              few = hv.few;
             }) (λ (no : ⊥). absurd no) a;
             reads = λ q' a. reads_cell about ws g i n q' near odd (rv.reads q' a);
           })

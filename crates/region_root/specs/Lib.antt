@@ -4,3 +4,4 @@ pub mod Compact
 pub mod Names
 pub mod Laws
 pub mod Plays
+pub mod Work

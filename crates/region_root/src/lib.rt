@@ -3,6 +3,7 @@
 
 mod plays;
 mod root;
+mod steps;
 mod words;
 
 pub use root::{CompactRoot, Holding, Reading, Regions};

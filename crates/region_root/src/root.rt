@@ -1,7 +1,7 @@
 //! The compact root table as a part of the rule, and what a pass knows of it. No value of the first three types
 //! is made: they are what contracts see behind a seat.
 
-use crate::words::{regions, words_each};
+use crate::words::{count_regions, count_words};
 use pair_rule::{RootPart, Sizes};
 use std::collections::LinkedList;
 
@@ -67,8 +67,8 @@ impl<const W: u32, const F: u32> RootPart<W, F> for CompactRoot<W, F> {
     ghost spent = { nothing };
 
     fn words(sizes: &Sizes) -> usize {
-        let regions = regions(sizes);
-        regions + regions * words_each::<W, F>(sizes)
+        let regions = count_regions(sizes);
+        regions + regions * count_words::<W, F>(sizes)
     }
 
     ghost keeps = { compact_keeps };

@@ -1,6 +1,6 @@
 use Rattle.std.proofs.Common.{◌≤◌, ◌^◌, ◌-◌, arith}
 use Rattle.std.proofs.Math.Pow.{pow_mono}
-use Rattle.region_root.proofs.words.regions.Goals as goal
+use Rattle.region_root.proofs.words.count_regions.Goals as goal
 
 pub returns-clause-small : goal.returns-clause-small
 returns-clause-small c =

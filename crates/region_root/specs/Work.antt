@@ -1,0 +1,52 @@
+-- A pass that holds a region, between two steps of one call.
+use Rattle.std.specs.Prelude.{◌≡◌, ℕ, ◌<◌, [], ◌∷◌, length, Bool, true, false, Option, Some, None}
+use Rattle.tdb_base.specs.declared.history.Act.{Act}
+use Rattle.tdb_base.specs.Acts.{act_of}
+use Rattle.tdb_base.specs.History.{is_fresh}
+use Rattle.pair_rule.specs.declared.pass.PassOf.{PassOf}
+use Rattle.pair_rule.specs.Part.{Store}
+use Rattle.pair_rule.specs.Rest.{AtRest, view}
+use Rattle.region_root.specs.declared.root.Regions.{Regions}
+use Rattle.region_root.specs.declared.root.Holding.{Holding}
+use Rattle.region_root.specs.Layout.{regions, words_each, KeepsRoots}
+use Rattle.region_root.specs.Maps.{InRegion}
+use Rattle.region_root.specs.Compact.{IsOdd, compact}
+use Rattle.region_root.specs.Plays.{Ending, holding}
+
+-- how a call is to end, as its code says it
+abbrev pub ending_of : Option (ℕ × Act) → Ending
+ending_of None = None
+ending_of (Some a) = Some (a.0, act_of a.1)
+
+-- the pass as it would be if it held no region
+abbrev pub released : PassOf Regions → PassOf Regions
+released p = record p {
+  seat = record p.seat {
+    me = (record (view p) { busy = false; root = record (view p).root { held = [] } }, p.seat.me.1);
+  };
+}
+
+-- a pass that holds this region, and else is as between two calls
+pub record AtWork (width flags : ℕ) (store : Store) (h : Holding) (p : PassOf Regions) : Type 0 where
+  pub rest : AtRest (compact width flags) store (released p)
+  pub busy : (view p).busy ≡ true
+  pub held : (view p).root.held ≡ h ∷ []
+  pub region : h.region < regions store.about
+  pub odd : IsOdd h.lock
+  pub long : length h.copy ≡ words_each store.about
+  pub inside : InRegion store.about h.region h.base
+
+-- the pass has taken the region, whose lock word has this odd value then
+pub record Locked (width flags : ℕ) (store : Store) (g lock : ℕ) (old new : PassOf Regions) : Type 0 where
+  pub hold : Holding
+  pub work : AtWork width flags store hold new
+  pub region_is : hold.region ≡ g
+  pub lock_is : hold.lock ≡ lock
+  pub keeps : KeepsRoots store.about hold.copy hold.base
+  pub view_is : view new ≡ holding hold (view old)
+  pub others : new ≡ record old { seat = new.seat }
+
+-- whether an ending gives a vector a name
+abbrev pub gives_name : Ending → Bool
+gives_name None = false
+gives_name (Some a) = is_fresh a.1
