@@ -5,3 +5,4 @@ pub mod Names
 pub mod Laws
 pub mod Plays
 pub mod Work
+pub mod Reached

@@ -1,17 +1,20 @@
--- A pass that holds a region, between two steps of one call.
-use Rattle.std.specs.Prelude.{◌≡◌, ℕ, ◌<◌, [], ◌∷◌, length, Bool, true, false, Option, Some, None}
+-- A pass in the middle of a call: it holds a region, or reads one without its lock.
+use Rattle.std.specs.Prelude.{◌≡◌, ℕ, ◌+◌, ◌<◌, List, [], ◌∷◌, length, Bool, true, false, Option, Some, None}
+use Rattle.tree_shape.specs.Tree.{Has, IsPart}
 use Rattle.tdb_base.specs.declared.history.Act.{Act}
 use Rattle.tdb_base.specs.Acts.{act_of}
 use Rattle.tdb_base.specs.History.{is_fresh}
 use Rattle.pair_rule.specs.declared.pass.PassOf.{PassOf}
 use Rattle.pair_rule.specs.Part.{Store}
+use Rattle.pair_rule.specs.Plays.{first_root}
 use Rattle.pair_rule.specs.Rest.{AtRest, view}
 use Rattle.region_root.specs.declared.root.Regions.{Regions}
 use Rattle.region_root.specs.declared.root.Holding.{Holding}
-use Rattle.region_root.specs.Layout.{regions, words_each, KeepsRoots}
+use Rattle.region_root.specs.declared.root.Reading.{Reading}
+use Rattle.region_root.specs.Layout.{regions, words_each, start, KeepsRoots}
 use Rattle.region_root.specs.Maps.{InRegion}
 use Rattle.region_root.specs.Compact.{IsOdd, compact}
-use Rattle.region_root.specs.Plays.{Ending, holding}
+use Rattle.region_root.specs.Plays.{Ending, holding, recopied, reloaded}
 
 -- how a call is to end, as its code says it
 abbrev pub ending_of : Option (ℕ × Act) → Ending
@@ -50,3 +53,45 @@ pub record Locked (width flags : ℕ) (store : Store) (g lock : ℕ) (old new : 
 abbrev pub gives_name : Ending → Bool
 gives_name None = false
 gives_name (Some a) = is_fresh a.1
+
+-- A reader's pass on the way: it rests, and its reader part has more loads.
+
+-- the reader has loaded this word at this place
+abbrev pub HasLoaded : PassOf Regions → ℕ → ℕ → Type 0
+HasLoaded p place word = (r : Reading) × ((view p).root.reader ≡ r ∷ []) × Has (place, word) r.loads
+
+-- it can reach so many words, which begin at `from`
+pub record CanRead (width flags : ℕ) (store : Store) (from : ℕ) (p : PassOf Regions) (count : ℕ) : Type 0 where
+  pub all : count ≡ words_each store.about
+  pub rest : AtRest (compact width flags) store p
+  pub reader : (r : Reading) × ((view p).root.reader ≡ r ∷ []) × (r.region < regions store.about)
+      × (from ≡ first_root store.about + start store.about r.region)
+
+pub record ReadsOn (width flags : ℕ) (store : Store) (old new : PassOf Regions) : Type 0 where
+  pub rest : AtRest (compact width flags) store old → AtRest (compact width flags) store new
+  pub view_is : (r : Reading) → (view old).root.reader ≡ r ∷ []
+      → (loads : List (ℕ × ℕ)) × (view new ≡ reloaded loads r (view old)) × IsPart r.loads loads
+  pub others : new ≡ record old { seat = new.seat }
+
+-- A holder's pass on the way: its copy alone changes.
+
+abbrev pub copy_in : List Holding → List ℕ
+copy_in [] = []
+copy_in (h ∷ hs) = h.copy
+
+abbrev pub held_words : PassOf Regions → List ℕ
+held_words p = copy_in (view p).root.held
+
+-- it can reach so many words, which begin at `from`
+pub record CanWrite (width flags : ℕ) (store : Store) (from : ℕ) (p : PassOf Regions) (count : ℕ) : Type 0 where
+  pub all : count ≡ words_each store.about
+  pub hold : Holding
+  pub work : AtWork width flags store hold p
+  pub begins : from ≡ first_root store.about + start store.about hold.region
+
+pub record Rewrites (width flags : ℕ) (store : Store) (old new : PassOf Regions) : Type 0 where
+  pub work : (h : Holding) → AtWork width flags store h old
+      → AtWork width flags store (record h { copy = held_words new }) new
+  pub view_is : (h : Holding) → (view old).root.held ≡ h ∷ []
+      → view new ≡ recopied (held_words new) h (view old)
+  pub others : new ≡ record old { seat = new.seat }

@@ -1,6 +1,7 @@
 //! The root table of compact mode: roots in the cells of regions, each region under a lock of one word.
 #![tactic(auto)]
 
+mod access;
 mod plays;
 mod root;
 mod steps;
