@@ -8,3 +8,4 @@ pub mod Readers
 pub mod Tables
 pub mod Working
 pub mod Resting
+pub mod Keys

@@ -3,11 +3,13 @@ use Rattle.std.proofs.Common.{◌≡◌, ℕ, ◌+◌, ◌*◌, ◌^◌, ◌<◌
 use Rattle.std.proofs.Math.Pow.{pow_mono}
 use Rattle.pair_rule.specs.declared.sizes.Sizes.{Sizes}
 use Rattle.pair_rule.specs.declared.sizes.About.{About}
+use Rattle.cleary_core.specs.declared.cells.Sizes.{Sizes as CellSizes}
+use Rattle.cleary_core.specs.Cells.{sizes_of}
 use Rattle.pair_rule.specs.Laws.{IsAbout}
 use Rattle.pair_rule.specs.Part.{Store, IsTable}
 use Rattle.pair_rule.specs.Paths.{size}
 use Rattle.pair_rule.specs.Plays.{first_root}
-use Rattle.region_root.specs.Layout.{IsSized, count, regions, words_each, start, region_words}
+use Rattle.region_root.specs.Layout.{IsSized, count, cells_of, regions, words_each, start, region_words}
 use Rattle.region_root.specs.Compact.{IsCompact, compact}
 use Rattle.region_root.proofs.Parts.{start_below}
 
@@ -42,3 +44,7 @@ module _ (width flags : ℕ) (store : Store) (is : IsTable width flags (compact 
       let all = is.words_are in
       let roots = is.is_about.root_words_small in
       omega (arith, most, all, roots)
+
+  -- the region's sizes as the code has them
+  pub cells_are : (sizes : Sizes) (z : CellSizes) → sizes ≡ store.about.sizes → z ≡ sizes_of width flags sizes.roots sizes.region → z ≡ cells_of store.about
+  cells_are sizes z same made = made ∙ (λ i. sizes_of (sym is.width_is i) (sym is.flags_are i) (same i).roots (same i).region)

@@ -123,7 +123,7 @@ no_longer_than (x ∷ xs) map once all =
     let less = no_longer_than xs w.0 once.1 (λ y h. let b = all y (inr h) in (b.0, w.2 y b.0 (λ z. once.0 (subst (λ (m : ℕ). Has m xs) z h)) b.1)) in
     omega (arith, less, w.1)
 
-keys_long : (about : About) (map : List (ℕ × ℕ)) → length (keys_of about map) ≡ length map
+pub keys_long : (about : About) (map : List (ℕ × ℕ)) → length (keys_of about map) ≡ length map
 keys_long about [] = refl
 keys_long about (r ∷ map) = ap suc (keys_long about map)
 

@@ -17,6 +17,10 @@ use Rattle.region_root.specs.Work.{AtWork, HasLoaded, CanRead, ReadsOn, CanWrite
 abbrev P : Type 0
 P = PassOf Regions
 
+-- the words of the region that a pass holds
+pub held_is : (p : P) (h : Holding) → (view p).root.held ≡ h ∷ [] → held_words p ≡ h.copy
+held_is p h e = ap copy_in e
+
 module _ (width flags : ℕ) where
   pub reads_stay : (store : Store) (p : P) → ReadsOn width flags store p p
   reads_stay store p = record {
@@ -63,10 +67,6 @@ module _ (width flags : ℕ) where
   loaded_keep store p q on i m h =
       let x = on.view_is h.0 h.1 in
       (record h.0 { loads = x.0 }, ap (λ v. v.root.reader) x.1, x.2 i m h.2)
-
-  -- a pass that holds a region, whose words are as they were
-  held_is : (p : P) (h : Holding) → (view p).root.held ≡ h ∷ [] → held_words p ≡ h.copy
-  held_is p h e = ap copy_in e
 
   pub rewrites_stay : (store : Store) (p : P) → Rewrites width flags store p p
   rewrites_stay store p = record {

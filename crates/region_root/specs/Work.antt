@@ -1,9 +1,12 @@
 -- A pass in the middle of a call: it holds a region, or reads one without its lock.
 use Rattle.std.specs.Prelude.{◌≡◌, ℕ, ◌+◌, ◌<◌, List, [], ◌∷◌, length, Bool, true, false, Option, Some, None}
+use Rattle.std.specs.Prelude.{Result, MatchResult}
 use Rattle.tree_shape.specs.Tree.{Has, IsPart}
 use Rattle.tdb_base.specs.declared.history.Act.{Act}
 use Rattle.tdb_base.specs.Acts.{act_of}
-use Rattle.tdb_base.specs.History.{is_fresh}
+use Rattle.tdb_base.specs.History.{Put, is_fresh}
+use Rattle.cleary_core.specs.declared.insertion.RegionFull.{RegionFull}
+use Rattle.pair_rule.specs.declared.sizes.About.{About}
 use Rattle.pair_rule.specs.declared.pass.PassOf.{PassOf}
 use Rattle.pair_rule.specs.Part.{Store}
 use Rattle.pair_rule.specs.Plays.{first_root}
@@ -11,8 +14,8 @@ use Rattle.pair_rule.specs.Rest.{AtRest, view}
 use Rattle.region_root.specs.declared.root.Regions.{Regions}
 use Rattle.region_root.specs.declared.root.Holding.{Holding}
 use Rattle.region_root.specs.declared.root.Reading.{Reading}
-use Rattle.region_root.specs.Layout.{regions, words_each, start, KeepsRoots}
-use Rattle.region_root.specs.Maps.{InRegion}
+use Rattle.region_root.specs.Layout.{regions, words_each, most, start, KeepsRoots}
+use Rattle.region_root.specs.Maps.{InRegion, Acts}
 use Rattle.region_root.specs.Compact.{IsOdd, compact}
 use Rattle.region_root.specs.Plays.{Ending, holding, recopied, reloaded}
 
@@ -95,3 +98,10 @@ pub record Rewrites (width flags : ℕ) (store : Store) (old new : PassOf Region
   pub view_is : (h : Holding) → (view old).root.held ≡ h ∷ []
       → view new ≡ recopied (held_words new) h (view old)
   pub others : new ≡ record old { seat = new.seat }
+
+-- an insertion of the root x into words that kept the base: the words keep what the act left of it; or every
+-- cell has another root
+abbrev pub Added : About → ℕ → Result Bool RegionFull → List (ℕ × ℕ) → List ℕ → Type 0
+Added about x result base words = MatchResult result
+    (λ fresh. (next : List (ℕ × ℕ)) × KeepsRoots about words next × Acts about.flags x (Put fresh) base next)
+    (λ _. KeepsRoots about words base × ((flags : ℕ) → Has (x, flags) base → ⊥) × (length base ≡ most about))

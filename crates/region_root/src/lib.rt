@@ -2,7 +2,9 @@
 #![tactic(auto)]
 
 mod access;
+mod lock;
 mod plays;
+mod put;
 mod root;
 mod steps;
 mod words;

@@ -2,9 +2,11 @@
 ghost use Rattle.std.specs.Prelude.{◌≡◌, ◌+◌, ◌^◌, ◌<◌, ◌≤◌};
 ghost use Rattle.pair_rule.specs.Plays.{first_root};
 ghost use Rattle.region_root.specs.Layout.{IsSized, region_count, region_words, regions, start, words_each};
+ghost use Rattle.region_root.specs.Layout.{IsPacked, place};
 
 use crate::root::CompactRoot;
 use cleary_core::Region;
+use mix_hash::{Place, mix, split};
 use pair_rule::{PairTable, Sizes};
 
 // How many regions there are.
@@ -66,4 +68,18 @@ pub(crate) fn region_start<const W: u32, const F: u32>(
     let sizes = table.sizes();
     let before = count_regions(sizes) + region as usize * count_words::<W, F>(sizes);
     first_word(sizes.nodes) + before
+}
+
+// Where the root belongs, which is a packed pair.
+#[inline]
+pub(crate) fn root_place<const W: u32, const F: u32>(
+    table: &PairTable<CompactRoot<W, F>, W, F>,
+    pair: u64,
+) -> Place
+    requires { IsPacked table.now.about pair }
+    ensures same { result ≡ place table.now.about pair }
+    ensures region { result.region < regions table.now.about }
+{
+    let sizes = table.sizes();
+    split::<W>(mix::<W>(pair), sizes.roots, sizes.region)
 }
