@@ -9,3 +9,4 @@ pub mod Tables
 pub mod Working
 pub mod Resting
 pub mod Keys
+pub mod Outcomes

@@ -47,27 +47,27 @@ names_given : (caller : ℕ) (about : About) (known : List (ℕ × ℕ)) (what :
 names_given caller about known None calls ns has e = ap (names_of_callers ns) e
 names_given caller about known (Some a) calls ns has e = ap (names_of_callers ns) e.3 ∙ one_name ns (deed caller a.1 e.0 a.0) has
 
+-- the same of a view that had another root part
+abbrev pub caught_as : (width flags : ℕ) (v w : V) (busy : Bool) (t : Regions) (more : History) → Caught (compact width flags) more v w → Caught (compact width flags) more (record v { busy = busy; root = t }) w
+caught_as width flags v w busy t more c = record {
+  log = c.log;
+  seen = c.seen;
+  begins = c.begins;
+  own = c.own;
+  about = c.about;
+  face_is = c.face_is;
+  made = c.made;
+  probing = c.probing;
+  probes = c.probes;
+  known = c.known;
+  roots_stay = c.roots_stay;
+  sound = c.sound;
+}
+
 module _ (width flags : ℕ) (store : Store) where
   -- what a step told of a table of this width
   pub caught_for : (v w : V) (more : History) → IsTable width flags (compact width flags) store → v.about ≡ store.about → Caught (part_of v.about) more v w → Caught (compact width flags) more v w
   caught_for v w more is same c = subst (λ (p : ℕ × ℕ). Caught (compact p.0 p.1) more v w) (λ i. ((ap (λ (y : About). y.width) same ∙ is.width_is) i, (ap (λ (y : About). y.flags) same ∙ is.flags_are) i)) c
-
-  -- the same of a view that had another root part
-  pub caught_as : (v w : V) (busy : Bool) (t : Regions) (more : History) → Caught (compact width flags) more v w → Caught (compact width flags) more (record v { busy = busy; root = t }) w
-  caught_as v w busy t more c = record {
-    log = c.log;
-    seen = c.seen;
-    begins = c.begins;
-    own = c.own;
-    about = c.about;
-    face_is = c.face_is;
-    made = c.made;
-    probing = c.probing;
-    probes = c.probes;
-    known = c.known;
-    roots_stay = c.roots_stay;
-    sound = c.sound;
-  }
 
   -- the holder's unlock
   module _ (h : Holding) (p : PassOf Regions) (w : AtWork width flags store h p) where
@@ -100,7 +100,7 @@ module _ (width flags : ℕ) (store : Store) where
         } in
         subst (AtRest (compact width flags) store) (sym others)
         (rests_caught (compact width flags) store (released p) (record p { seat = q.seat; names_count = q.names_count }) told.calls w.rest seat
-        (caught_as v (view q) false (record v.root { held = [] }) told.calls c) refl refl refl refl refl (names ∙ ap (λ (n : ℕ). p.names_count + n) (sym given)))
+        (caught_as width flags v (view q) false (record v.root { held = [] }) told.calls c) refl refl refl refl refl (names ∙ ap (λ (n : ℕ). p.names_count + n) (sym given)))
 
   -- a pass at rest whose root part alone changes
   pub rests_root : (p q : PassOf Regions) (t : Regions) → AtRest (compact width flags) store p → q.seat.table_id ≡ p.seat.table_id → q.seat.me.1 ≡ p.seat.me.1 → view q ≡ record (view p) { root = t } → t.held ≡ [] → q ≡ record p { seat = q.seat }

@@ -6,3 +6,4 @@ pub mod Laws
 pub mod Plays
 pub mod Work
 pub mod Reached
+pub mod Told

@@ -3,10 +3,13 @@
 
 mod access;
 mod lock;
+mod peek;
 mod plays;
 mod put;
 mod root;
 mod steps;
 mod words;
 
+pub use peek::{Peek, peek_root};
+pub use put::put_root;
 pub use root::{CompactRoot, Holding, Reading, Regions};

@@ -1,13 +1,20 @@
 //! Where the words of a compact root table lie.
 ghost use Rattle.std.specs.Prelude.{◌≡◌, ◌+◌, ◌^◌, ◌<◌, ◌≤◌};
+ghost use Rattle.packed_word.specs.Word.{pair_of};
+ghost use Rattle.pair_rule.specs.Part.{IsTable};
 ghost use Rattle.pair_rule.specs.Plays.{first_root};
+ghost use Rattle.region_root.specs.Compact.{compact};
 ghost use Rattle.region_root.specs.Layout.{IsSized, region_count, region_words, regions, start, words_each};
 ghost use Rattle.region_root.specs.Layout.{IsPacked, place};
 
 use crate::root::CompactRoot;
 use cleary_core::Region;
 use mix_hash::{Place, mix, split};
+use packed_word::Layout;
 use pair_rule::{PairTable, Sizes};
+
+// The present bit.
+const PRESENT: u64 = 1 << 63;
 
 // How many regions there are.
 #[inline]
@@ -79,7 +86,24 @@ pub(crate) fn root_place<const W: u32, const F: u32>(
     requires { IsPacked table.now.about pair }
     ensures same { result ≡ place table.now.about pair }
     ensures region { result.region < regions table.now.about }
+    ensures store { IsTable W F (compact W F) table.now }
 {
     let sizes = table.sizes();
     split::<W>(mix::<W>(pair), sizes.roots, sizes.region)
+}
+
+// The root of two parts, as one number.
+#[inline]
+pub(crate) fn pack_root<const W: u32, const F: u32>(
+    table: &PairTable<CompactRoot<W, F>, W, F>,
+    left: u64,
+    right: u64,
+) -> u64
+    requires left { left < 2 ^ table.now.about.width }
+    requires right { right < 2 ^ table.now.about.width }
+    ensures same { result ≡ pair_of table.now.about.width left right }
+    ensures packed { IsPacked table.now.about result }
+{
+    let _ = table.slots();
+    Layout::<W, F>::pack(left, right) - PRESENT
 }

@@ -25,9 +25,25 @@ insert_held-requires g c =
       hold = w.0;
       work = w.1;
       begins = c.region_start-from.ensures.place ∙ ap (λ (k : ℕ). first_root about + start about k) (sym w.2);
-    } in
-    (omega arith, (omega arith, (omega arith, (can, (home_inside about is c.args.pair c.requires.root.0 c.over-region.result z c.args.at.now c.requires.root.1, (quotient_inside about is c.args.pair c.requires.root.0 c.over-region.result z c.args.at.now c.requires.root.1,
-    kept_keys about c.over-region.result z (held_words c.args.pass.now) w.0.base (subst (λ (l : List ℕ). KeepsRoots about l w.0.base) (sym copy) w.3)))))))
+    } in (
+      omega arith,
+      (
+        omega arith,
+        (
+          omega arith,
+          (
+            can,
+            (
+              home_inside about is c.args.pair c.requires.root.0 c.over-region.result z c.args.at.now c.requires.root.1,
+              (
+                quotient_inside about is c.args.pair c.requires.root.0 c.over-region.result z c.args.at.now c.requires.root.1,
+                kept_keys about c.over-region.result z (held_words c.args.pass.now) w.0.base (subst (λ (l : List ℕ). KeepsRoots about l w.0.base) (sym copy) w.3),
+              ),
+            ),
+          ),
+        ),
+      ),
+    )
 
 pub returns-clause-added : goal.returns-clause-added
 returns-clause-added g c = λ h held.
