@@ -1,13 +1,13 @@
 -- Keys of a region's cells, and the roots that they stand for.
 use Rattle.std.proofs.Common.{◌≡◌, ◌≢◌, ◌⊎◌, ℕ, suc, ◌*◌, ◌^◌, ◌<◌, ◌≤◌, List, [], ◌∷◌, length, Bool, true, false, Result, Ok, Err, refl, sym, ap, ◌∙◌, subst, inl, inr, ⊎_elim, eq-eqb, ne_eqb}
-use Rattle.std.specs.Prelude.{if◌then◌else◌, ◌==◌, ◌&&◌, MatchResult, map}
+use Rattle.std.specs.Prelude.{if◌then◌else◌, ◌==◌, ◌&&◌, MatchResult, MatchBool, map}
 use mathlib.Core.Logic.{dite}
 use native.Mathlib.Decide.{ℕ_discrete}
 use Rattle.mix_hash.specs.declared.Place.{Place}
 use Rattle.tree_shape.specs.Tree.{Has}
 use Rattle.tdb_base.specs.History.{Put}
 use Rattle.cleary_core.specs.declared.insertion.RegionFull.{RegionFull}
-use Rattle.cleary_core.specs.Answers.{Present, Tells, TellsFlags, Answered, new_key, flag, flagged as keys_flagged}
+use Rattle.cleary_core.specs.Answers.{Present, Tells, Decides, TellsFlags, Answered, new_key, flag, flagged as keys_flagged}
 use Rattle.cleary_core.specs.declared.cells.Sizes.{Sizes as CellSizes}
 use Rattle.cleary_core.specs.Cells.{word_count}
 use Rattle.cleary_core.specs.Map.{Key, Has as HasKey, IsMap, KeepsMap}
@@ -17,7 +17,10 @@ use Rattle.region_root.specs.Layout.{most, place, region_of, IsPacked, key_of, k
 use Rattle.region_root.specs.Maps.{InRegion, Acts, flagged}
 use Rattle.region_root.specs.Compact.{IsCompact}
 use Rattle.region_root.specs.Names.{one_place, keys_long, place_in_range}
-use Rattle.region_root.specs.Work.{Added}
+use Rattle.region_root.specs.Work.{Added, HasLoaded}
+use Rattle.region_root.specs.Told.{FindsRoot}
+use Rattle.region_root.specs.declared.root.Regions.{Regions}
+use Rattle.pair_rule.specs.declared.pass.PassOf.{PassOf}
 
 pub key_there : (about : About) (x f : ℕ) (m : List (ℕ × ℕ)) → Has (x, f) m → HasKey (key_of about x f) (keys_of about m)
 key_there about x f [] h = absurd h
@@ -107,3 +110,20 @@ kept_keys about z same words base k = (keys_of about base, subst (λ (y : CellSi
 pub words_of : (about : About) (z : CellSizes) → z ≡ cells_of about → word_count z ≡ words_each about
 unfolding region_words
 words_of about z same = ap word_count same
+
+-- what was reached decides of the root
+module _ (about : About) (is : IsCompact about) (x : ℕ) (packed : IsPacked about x) (z : CellSizes) (same : z ≡ cells_of about) (at : Place) (at_is : at ≡ place about x) where
+  tells_root : (answer : Bool) (m : List (ℕ × ℕ)) → InRegion about (region_of about x) m → Tells answer (keys_of about m) (place about x).home (place about x).quotient
+      → MatchBool answer ((f : ℕ) × Has (x, f) m) ((f : ℕ) → Has (x, f) m → ⊥)
+  tells_root true m inside t = present about is (region_of about x) x refl packed m inside t
+  tells_root false m inside t = λ f h. t (is_present about is (region_of about x) x refl packed m f h)
+
+  -- words that keep roots, and what is told of their keys
+  pub root_told : (answer : Bool) (words : List ℕ) (m : List (ℕ × ℕ)) → KeepsRoots about words m → InRegion about (region_of about x) m → ((keys : List Key) → KeepsMap z words keys → Tells answer keys at.home at.quotient)
+      → MatchBool answer ((f : ℕ) × Has (x, f) m) ((f : ℕ) → Has (x, f) m → ⊥)
+  unfolding KeepsRoots
+  root_told answer words m keeps inside tells = tells_root answer m inside
+      (subst (λ (p : CellSizes × Place). KeepsMap p.0 words (keys_of about m) → Tells answer (keys_of about m) p.1.home p.1.quotient) (λ i. (same i, at_is i)) (tells (keys_of about m)) keeps)
+
+  pub finds_root : (p : PassOf Regions) (answer : Bool) → Decides z (HasLoaded p) at.home at.quotient answer → FindsRoot about x p answer
+  finds_root p answer d = record { decides = λ words m long agrees keeps inside. root_told answer words m keeps inside (λ keys kept. d words keys (long ∙ sym (words_of about z same)) agrees kept) }

@@ -10,3 +10,4 @@ pub mod Working
 pub mod Resting
 pub mod Keys
 pub mod Outcomes
+pub mod Peeking

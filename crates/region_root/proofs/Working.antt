@@ -63,7 +63,7 @@ module _ (width flags : ℕ) where
     }
 
     -- the same history
-    still : (v w : V) (busy : Bool) (t : Regions) → w ≡ record v { busy = busy; root = t } → Sound (compact width flags) w → Caught (compact width flags) [] v w
+    pub still : (v w : V) (busy : Bool) (t : Regions) → w ≡ record v { busy = busy; root = t } → Sound (compact width flags) w → Caught (compact width flags) [] v w
     still v w busy t is s = subst (λ (u : V). Sound (compact width flags) u → Caught (compact width flags) [] v u) (sym is) (λ sound. record {
       log = v.seen;
       seen = sym (append-nil v.seen);

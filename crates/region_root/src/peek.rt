@@ -39,7 +39,10 @@ fn is_believable(lock: u64) -> bool
     ensures yes { result ≡ true → IsEven lock × (lock < last) }
     ensures no { result ≡ false → (lock ≡ last) ⊎ IsOdd lock }
 {
-    lock % 2 == 0 && lock < LAST
+    if lock >= LAST {
+        return false;
+    }
+    lock % 2 == 0
 }
 
 // Whether the root is in the region that the pass reads, by words that it loads one at a time.
