@@ -7,13 +7,14 @@ use prog.Atomic.{either}
 use Rattle.atomic_table.specs.Table.{State, Me, Act, Valid, carried_after, step, keeps, stepped, Allows}
 use Rattle.atomic_table.proofs.Lists.{exchanged, set_again}
 use Rattle.tree_shape.specs.Tree.{Has}
+use Rattle.tdb_base.proofs.NameLemmas.{keeps-names}
 use Rattle.pair_rule.specs.declared.view.View.{View}
 use Rattle.pair_rule.specs.declared.sizes.About.{About}
 use Rattle.pair_rule.specs.Plays.{first_root}
 use Rattle.pair_rule.proofs.Advance.{catch, stays}
 use Rattle.region_root.specs.declared.root.Regions.{Regions}
 use Rattle.region_root.specs.declared.root.Holding.{Holding}
-use Rattle.region_root.specs.Layout.{regions, words_each, lock_of, start, part, KeepsRoots}
+use Rattle.region_root.specs.Layout.{regions, words_each, lock_of, start, part, KeepsRoots, region_of}
 use Rattle.region_root.specs.Maps.{InRegion}
 use Rattle.region_root.specs.Compact.{IsEven, IsOdd, last, Compact}
 use Rattle.region_root.specs.Plays.{part_of, Ending, MayEnd, Told, holding, recopied, IsNext, place_in, Taken, takes_tells, copies_tells, stores_tells, frees_tells}
@@ -77,6 +78,9 @@ module _ (S : Type 0) (about : About) where
         long = long ∙ ap words_each (sym about_is);
         keeps = subst (λ (y : About). KeepsRoots y copy f.map) (sym about_is) f.keeps;
         inside = subst (λ (y : About). InRegion y g f.map) (sym about_is) (in_region about r.log (after s.words) s.views r.rooted g f.map f.is_map);
+        names = λ vector i name here_g.
+            let k = f.is_map.each vector i (keeps-names about.flags me.0.seen r.log r.legal (r.each id me.0 e).seen vector i name) (subst (λ (y : About). region_of y i ≡ g) about_is here_g) in
+            (k.0, k.2);
       } in
       (w, keeps, tt, kept, (refl, (λ _. subst (λ (k : ℕ). Taken k new me.0 w) (sym d) told), (λ no. absurd (no z)))))
       (λ ne. (me.0, keeps, tt, unchanged s id (base + g) me r e, (refl, (λ z. absurd (ne z)), (λ _. refl)))))

@@ -11,3 +11,4 @@ pub mod Resting
 pub mod Keys
 pub mod Outcomes
 pub mod Peeking
+pub mod Writing

@@ -1,5 +1,5 @@
 -- What a call's end tells of the pass that made it.
-use Rattle.std.proofs.Common.{◌≡◌, ◌≢◌, ◌⊎◌, ℕ, suc, ◌+◌, ◌*◌, ◌^◌, ◌<◌, ◌≤◌, List, [], ◌∷◌, ◌++◌, length, Bool, true, false, Some, None, refl, sym, ap, ◌∙◌, subst, inl, inr, ⊎_elim, append-nil}
+use Rattle.std.proofs.Common.{◌≡◌, ◌≢◌, ◌⊎◌, ℕ, suc, ◌+◌, ◌*◌, ◌^◌, ◌<◌, ◌≤◌, List, [], ◌∷◌, ◌++◌, length, Bool, true, false, Some, None, refl, sym, ap, ◌∙◌, subst, inl, inr, ⊎_elim, append-nil, arith}
 use Rattle.std.specs.Prelude.{map}
 use Rattle.std.proofs.lemmas.List.{length-map}
 use Rattle.tree_shape.specs.Tree.{Has, RootStands}
@@ -9,11 +9,12 @@ use Rattle.pair_rule.specs.declared.view.View.{View}
 use Rattle.pair_rule.specs.declared.sizes.About.{About}
 use Rattle.pair_rule.specs.declared.pass.PassOf.{PassOf}
 use Rattle.pair_rule.specs.Part.{Store, IsTable, root_pairs}
-use Rattle.pair_rule.specs.Calls.{call, Called, KeepsBuffers}
+use Rattle.pair_rule.specs.Calls.{call, Called, IsNoName, KeepsBuffers}
+use Rattle.pair_rule.proofs.Catches.{names_by_seen, names_caught}
 use Rattle.pair_rule.proofs.Calling.{called_entry}
 use Rattle.pair_nodes.specs.Roots.{RootPut, RootRefused}
 use Rattle.pair_rule.specs.Plays.{Caught}
-use Rattle.pair_rule.specs.Rest.{AtRest, view}
+use Rattle.pair_rule.specs.Rest.{AtRest, names_of_callers, view}
 use Rattle.region_root.specs.declared.root.Regions.{Regions}
 use Rattle.region_root.specs.declared.root.Holding.{Holding}
 use Rattle.region_root.specs.Layout.{region_of, most, keys_of, IsPacked, KeepsRoots}
@@ -108,3 +109,35 @@ module _ (width flags : ℕ) (store : Store) (is : IsTable width flags (compact 
         full = full_by width flags store is (view p) (view q) rest.seat.about_is x l.hold.base record { words = h.words; keeps = h.keeps; absent = h.absent; all = h.all; told = told };
         buffers = all_buffers;
       }
+
+-- a pass that gave no name keeps its counts
+pub quiet_others : (width flags : ℕ) (store : Store) (p q : PassOf Regions) (calls : History) → AtRest (compact width flags) store p → AtRest (compact width flags) store q → KeepsBuffers p q → Caught (compact width flags) calls (view p) (view q)
+    → names_of_callers (view p).numbers calls ≡ 0 → q ≡ record p { seat = q.seat }
+quiet_others width flags store p q calls rp rq buffers c zero_names =
+    let given = names_caught (compact width flags) store p q calls rp c in
+    let now = rq.names_count in
+    let same : q.names_count ≡ p.names_count = omega (arith, given, now, zero_names) in
+    buffers ∙ ap (λ (n : ℕ). record p { seat = q.seat; names_count = n }) same
+
+module _ (width flags : ℕ) (store : Store) (is : IsTable width flags (compact width flags) store) (p q : PassOf Regions) (rp : AtRest (compact width flags) store p) (rq : AtRest (compact width flags) store q) (buffers : KeepsBuffers p q) (g x : ℕ) (m : List (ℕ × ℕ)) where
+  -- a root that was found, and one that wasn't
+  pub found_by : Told g m (Some (x, Put false)) (view p) (view q) → Called (compact width flags) false x x (view p) (view q) × (q ≡ record p { seat = q.seat })
+  found_by told =
+      let c = called_by width flags store is (view p) (view q) rp.seat.about_is g x m false told in
+      (c, quiet_others width flags store p q _ rp rq buffers c.caught (names_by_seen (view p).numbers (call (view p).number false c.vector x) refl))
+
+  pub missed_by : g ≡ region_of store.about x → ((f : ℕ) → Has (x, f) m → ⊥) → Told g m None (view p) (view q) → Caught (compact width flags) [] (view p) (view q) × IsNoName x (view q).seen × (q ≡ record p { seat = q.seat })
+  missed_by here absent told =
+      let k = still_by width flags store is (view p) (view q) rp.seat.about_is g m told in
+      (k.0, (λ v n. let e = k.1.each v x n (sym here) in absent e.0 e.2), quiet_others width flags store p q [] rp rq buffers k.0 refl)
+
+-- a name's identifier is a packed pair
+pub name_packed : (width flags : ℕ) (store : Store) (p : PassOf Regions) → AtRest (compact width flags) store p → IsTable width flags (compact width flags) store → (vector : Vector) (id : ℕ) → name_of (view p).seen vector ≡ Some id
+    → (id < 2 ^ (2 * width)) × Has (id, id) (roots_of (view p).seen)
+name_packed width flags store p r is vector id n =
+    let s = r.seat.sound in
+    let k = (are_names (view p).about.flags (view p).seen s.legal).each vector id n in
+    (subst (λ (w : ℕ). id < 2 ^ (2 * w)) (ap (λ (y : About). y.width) r.seat.about_is ∙ is.width_is) (s.root_sound.packed id id k), k)
+
+pub not_packed : (width flags : ℕ) (store : Store) (p : PassOf Regions) (id : ℕ) → AtRest (compact width flags) store p → IsTable width flags (compact width flags) store → (id < 2 ^ (2 * width) → ⊥) → IsNoName id (view p).seen
+not_packed width flags store p id r is big vector n = big (name_packed width flags store p r is vector id n).0

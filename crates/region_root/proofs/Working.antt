@@ -15,7 +15,7 @@ use Rattle.pair_rule.proofs.Catches.{rests_caught}
 use Rattle.pair_rule.proofs.Histories.{extends_refl}
 use Rattle.region_root.specs.declared.root.Regions.{Regions}
 use Rattle.region_root.specs.declared.root.Holding.{Holding}
-use Rattle.region_root.specs.Layout.{regions, words_each, start, KeepsRoots}
+use Rattle.region_root.specs.Layout.{regions, words_each, start, KeepsRoots, region_of}
 use Rattle.region_root.specs.Compact.{IsEven, IsOdd, compact, Compact}
 use Rattle.region_root.specs.Maps.{InRegion}
 use Rattle.region_root.specs.Plays.{part_of, recopied, place_in, Taken, takes_tells, copies_tells, stores_tells}
@@ -116,6 +116,7 @@ module _ (width flags : ℕ) where
           region_is = refl;
           lock_is = refl;
           keeps = subst (λ (y : About). KeepsRoots y t.copy t.base) about t.keeps;
+          names = λ vector id name here. t.names vector id name (subst (λ (y : About). region_of y id ≡ g) (sym about) here);
           view_is = t.view_is;
           others = others;
         }

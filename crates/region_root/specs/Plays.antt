@@ -3,7 +3,7 @@ use Rattle.std.specs.Prelude.{◌≡◌, ◌≢◌, ℕ, suc, ◌+◌, ◌-◌, 
 use Rattle.std.specs.Prelude.{Some, None, slice_index, slice_set}
 use Rattle.atomic_table.specs.Table.{Me, Step}
 use Rattle.tree_shape.specs.Tree.{Has, RootStands}
-use Rattle.tdb_base.specs.History.{Vector, Act, Put, Entry, History, is_fresh}
+use Rattle.tdb_base.specs.History.{Vector, Act, Put, Entry, History, is_fresh, name_of}
 use Rattle.pair_rule.specs.declared.view.View.{View}
 use Rattle.pair_rule.specs.declared.sizes.About.{About}
 use Rattle.pair_rule.specs.Part.{Part}
@@ -78,7 +78,7 @@ IsNext odd n = (n ≡ suc odd) ⊎ ((odd ≡ suc last) × (n ≡ last))
 abbrev pub place_in : About → ℕ → ℕ → ℕ
 place_in about word g = word - (first_root about + start about g)
 
--- the region was taken: its words and the map that they keep
+-- the region was taken: its words, and the map that they keep, which has the names that the view has seen
 pub record Taken (g lock : ℕ) (v w : View Regions) : Type 0 where
   pub copy : List ℕ
   pub base : List (ℕ × ℕ)
@@ -86,6 +86,8 @@ pub record Taken (g lock : ℕ) (v w : View Regions) : Type 0 where
   pub long : length copy ≡ words_each v.about
   pub keeps : KeepsRoots v.about copy base
   pub inside : InRegion v.about g base
+  pub names : (vector : Vector) (id : ℕ) → name_of v.seen vector ≡ Some id → region_of v.about id ≡ g
+      → (flags : ℕ) × Has (id, flags) base
 
 -- What a reader learns whose second look found the first value again: there are words of the region that have
 -- its loads at their places, and they keep the map of the region's names. Where the wanted root is among them,

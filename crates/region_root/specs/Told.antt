@@ -89,3 +89,8 @@ abbrev pub ticked : Peek → Option ℕ → Option ℕ
 ticked (Seen id) count = option_map counted count
 ticked Absent count = count
 ticked Changed count = count
+
+-- a root was looked for under the lock of its region
+abbrev pub FindTold : ℕ → Bool → Holding → View Regions → View Regions → Type 0
+FindTold x answer h v w = MatchBool answer (Told h.region h.base (Some (x, Put false)) v w)
+    (((flags : ℕ) → Has (x, flags) h.base → ⊥) × Told h.region h.base None v w)

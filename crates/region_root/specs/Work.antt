@@ -4,7 +4,7 @@ use Rattle.std.specs.Prelude.{Result, MatchResult}
 use Rattle.tree_shape.specs.Tree.{Has, IsPart}
 use Rattle.tdb_base.specs.declared.history.Act.{Act}
 use Rattle.tdb_base.specs.Acts.{act_of}
-use Rattle.tdb_base.specs.History.{Put, is_fresh}
+use Rattle.tdb_base.specs.History.{Vector, Put, is_fresh, name_of}
 use Rattle.cleary_core.specs.declared.insertion.RegionFull.{RegionFull}
 use Rattle.pair_rule.specs.declared.sizes.About.{About}
 use Rattle.pair_rule.specs.declared.pass.PassOf.{PassOf}
@@ -14,7 +14,7 @@ use Rattle.pair_rule.specs.Rest.{AtRest, view}
 use Rattle.region_root.specs.declared.root.Regions.{Regions}
 use Rattle.region_root.specs.declared.root.Holding.{Holding}
 use Rattle.region_root.specs.declared.root.Reading.{Reading}
-use Rattle.region_root.specs.Layout.{regions, words_each, most, start, KeepsRoots}
+use Rattle.region_root.specs.Layout.{regions, words_each, most, start, region_of, KeepsRoots}
 use Rattle.region_root.specs.Maps.{InRegion, Acts}
 use Rattle.region_root.specs.Compact.{IsOdd, compact}
 use Rattle.region_root.specs.Plays.{Ending, holding, recopied, reloaded}
@@ -49,6 +49,8 @@ pub record Locked (width flags : ℕ) (store : Store) (g lock : ℕ) (old new : 
   pub region_is : hold.region ≡ g
   pub lock_is : hold.lock ≡ lock
   pub keeps : KeepsRoots store.about hold.copy hold.base
+  pub names : (vector : Vector) (id : ℕ) → name_of (view old).seen vector ≡ Some id
+      → region_of store.about id ≡ g → (flags : ℕ) × Has (id, flags) hold.base
   pub view_is : view new ≡ holding hold (view old)
   pub others : new ≡ record old { seat = new.seat }
 

@@ -1,6 +1,6 @@
 //! A region's words as they are reached one at a time: by a reader without the lock, and by a holder.
 ghost use Rattle.std.specs.Prelude.{◌≡◌, ◌<◌, ◌^◌, List};
-ghost use Rattle.cleary_core.specs.Answers.{Answered, Tells, Decides, DecidesFlags, flagged};
+ghost use Rattle.cleary_core.specs.Answers.{Answered, Tells, TellsFlags, Decides, flagged};
 ghost use Rattle.cleary_core.specs.Cells.{word_count};
 ghost use Rattle.cleary_core.specs.Map.{Key, KeepsMap};
 ghost use Rattle.region_root.specs.Work.{CanRead, HasLoaded, ReadsOn, CanWrite, Rewrites, held_words};
@@ -170,4 +170,45 @@ pub(crate) fn insert_held<const W: u32, const F: u32>(
 {
     let mut holder = Holder { table, pass, from };
     region.insert_in(&mut holder, home, quotient)
+}
+
+// The flags of a key of the held region.
+pub(crate) fn flags_held<const W: u32, const F: u32>(
+    table: &PairTable<CompactRoot<W, F>, W, F>,
+    pass: &mut PassOf<Regions>,
+    region: &Region<W, F>,
+    from: usize,
+    home: u64,
+    quotient: u64,
+) -> u64
+    requires words { CanWrite W F table.now from pass.old (word_count region.now) }
+    requires home { home < region.now.cells }
+    ensures same { pass.new ≡ pass.old }
+    ensures flags { (keys : List Key) → KeepsMap region.now (held_words pass.old) keys
+        → TellsFlags result keys home quotient }
+{
+    let mut holder = Holder { table, pass, from };
+    region.flags_in(&mut holder, home, quotient)
+}
+
+// Sets the flags of a key of the held region.
+pub(crate) fn set_flags_held<const W: u32, const F: u32>(
+    table: &PairTable<CompactRoot<W, F>, W, F>,
+    pass: &mut PassOf<Regions>,
+    region: &Region<W, F>,
+    from: usize,
+    home: u64,
+    quotient: u64,
+    value: u64,
+)
+    requires words { CanWrite W F table.now from pass.old (word_count region.now) }
+    requires home { home < region.now.cells }
+    requires value { value < 2 ^ region.now.flags }
+    requires kept { (keys : List Key) × KeepsMap region.now (held_words pass.old) keys }
+    ensures rewrites { Rewrites W F table.now pass.old pass.new }
+    ensures flagged { (keys : List Key) → KeepsMap region.now (held_words pass.old) keys
+        → KeepsMap region.now (held_words pass.new) (flagged home quotient value keys) }
+{
+    let mut holder = Holder { table, pass, from };
+    region.set_flags_in(&mut holder, home, quotient, value)
 }

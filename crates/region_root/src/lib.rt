@@ -2,6 +2,9 @@
 #![tactic(auto)]
 
 mod access;
+mod find;
+mod flags;
+mod held;
 mod lock;
 mod peek;
 mod plays;

@@ -12,39 +12,18 @@ ghost use Rattle.region_root.specs.declared.root.Holding.{Holding};
 ghost use Rattle.region_root.specs.Layout.{place, most, IsPacked, KeepsRoots};
 ghost use Rattle.region_root.specs.Compact.{compact};
 ghost use Rattle.region_root.specs.Told.{PutTold, LockedOnce};
-ghost use Rattle.region_root.specs.Work.{AtWork, Added, Rewrites, held_words};
+ghost use Rattle.region_root.specs.Work.{AtWork};
 
-use crate::access::insert_held;
+use crate::held::add_root;
 use crate::lock::lock_region;
 use crate::root::CompactRoot;
 use crate::steps::unlock;
-use crate::words::{pack_root, region_start, root_place};
-use cleary_core::{Region, RegionFull};
+use crate::words::{pack_root, root_place};
 use mix_hash::Place;
 use pair_nodes::Nodes;
 use pair_rule::{PairTable, Pass, RootsFull};
 use std::sync::Wait;
 use tdb_base::{Act, Ledger, Steps};
-
-// Under the lock of its region, adds the root, if it isn't there.
-fn add_root<const W: u32, const F: u32>(
-    table: &PairTable<CompactRoot<W, F>, W, F>,
-    pass: &mut Pass<CompactRoot<W, F>, W, F>,
-    pair: u64,
-    at: &Place,
-) -> Result<bool, RegionFull>
-    requires root { IsPacked table.now.about pair × (at.now ≡ place table.now.about pair) }
-    requires work { (h : Holding) × AtWork W F table.now h pass.old × (h.region ≡ at.now.region)
-        × KeepsRoots table.now.about h.copy h.base }
-    ensures rewrites { Rewrites W F table.now pass.old pass.new }
-    ensures added { (h : Holding) → (view pass.old).root.held ≡ h ∷ []
-        → Added table.now.about pair result h.base (held_words pass.new) }
-{
-    let sizes = table.sizes();
-    let region = Region::<W, F>::over(sizes.roots, sizes.region);
-    let from = region_start(table, at.region);
-    insert_held(table, pass, &region, from, at.home, at.quotient)
-}
 
 // From the lock, of which this is the odd value, to the unlock.
 fn put_locked<const W: u32, const F: u32>(

@@ -44,10 +44,12 @@ returns-else-found-clause-peeked g c =
 
 pub returns-then-found-clause-told : goal.returns-then-found-clause-told
 returns-then-found-clause-told g c =
-    let b = c.is_believable.ensures.yes c.if-not-is_believable.false in
-    (seen g.row.W g.row.F c.args.table.now c.root_place-at.ensures.store c.args.pair c.args.pass.now c.open_peek-first.new.pass c.look_for-found.new.pass c.close_peek.new.pass c.root_place-at.result.region c.open_peek-first.result c.close_peek.result c.requires.rest
-    (ap (λ (p : Place). p.region) c.root_place-at.ensures.same) c.open_peek-first.ensures.view c.open_peek-first.ensures.others c.look_for-found.ensures.reads c.close_peek.ensures.rest c.close_peek.ensures.told c.close_peek.ensures.others
-    c.if-close_peek-first.false b.0 b.1 (subst (FindsRoot c.args.table.now.about c.args.pair c.look_for-found.new.pass) c.if-found.true c.look_for-found.ensures.finds), refl)
+    let b = c.is_believable.ensures.yes c.if-not-is_believable.false in (
+      seen g.row.W g.row.F c.args.table.now c.root_place-at.ensures.store c.args.pair c.args.pass.now c.open_peek-first.new.pass c.look_for-found.new.pass c.close_peek.new.pass c.root_place-at.result.region c.open_peek-first.result c.close_peek.result c.requires.rest
+          (ap (λ (p : Place). p.region) c.root_place-at.ensures.same) c.open_peek-first.ensures.view c.open_peek-first.ensures.others c.look_for-found.ensures.reads c.close_peek.ensures.rest c.close_peek.ensures.told c.close_peek.ensures.others
+          c.if-close_peek-first.false b.0 b.1 (subst (FindsRoot c.args.table.now.about c.args.pair c.look_for-found.new.pass) c.if-found.true c.look_for-found.ensures.finds),
+      refl,
+    )
 
 pub returns-else-found-clause-told : goal.returns-else-found-clause-told
 returns-else-found-clause-told g c =

@@ -10,7 +10,7 @@ use Rattle.region_root.specs.Reached.{held_is}
 use Rattle.region_root.proofs.Catching.{head_of}
 use Rattle.region_root.proofs.Keys.{home_inside, quotient_inside, added_at, kept_keys, words_of}
 use Rattle.region_root.proofs.Tables.{is_compact, cells_are}
-use Rattle.region_root.proofs.put.add_root.Goals as goal
+use Rattle.region_root.proofs.held.add_root.Goals as goal
 
 pub insert_held-requires : goal.insert_held-requires
 insert_held-requires g c =
