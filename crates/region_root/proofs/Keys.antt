@@ -1,20 +1,19 @@
 -- Keys of a region's cells, and the roots that they stand for.
-use Rattle.std.proofs.Common.{◌≡◌, ◌≢◌, ◌⊎◌, ℕ, suc, ◌*◌, ◌^◌, ◌<◌, ◌≤◌, List, [], ◌∷◌, length, Bool, true, false, Result, Ok, Err, refl, sym, ap, ◌∙◌, subst, inl, inr, ⊎_elim, eq-eqb, ne_eqb}
-use Rattle.std.specs.Prelude.{if◌then◌else◌, ◌==◌, ◌&&◌, MatchResult, MatchBool, map}
+use Rattle.std.proofs.Common.{◌≡◌, ℕ, ◌^◌, ◌<◌, List, [], ◌∷◌, Bool, true, false, Result, Ok, Err, refl, sym, ap, ◌∙◌, subst, inl, inr, ⊎_elim, eq-eqb, ne_eqb}
+use Rattle.std.specs.Prelude.{if◌then◌else◌, ◌==◌, ◌&&◌, MatchBool, map}
 use mathlib.Core.Logic.{dite}
 use native.Mathlib.Decide.{ℕ_discrete}
 use Rattle.mix_hash.specs.declared.Place.{Place}
 use Rattle.tree_shape.specs.Tree.{Has}
-use Rattle.tdb_base.specs.History.{Put}
 use Rattle.cleary_core.specs.declared.insertion.RegionFull.{RegionFull}
-use Rattle.cleary_core.specs.Answers.{Present, Tells, Decides, TellsFlags, Answered, new_key, flag, flagged as keys_flagged}
+use Rattle.cleary_core.specs.Answers.{Present, Tells, Decides, Answered, flagged as keys_flagged}
 use Rattle.cleary_core.specs.declared.cells.Sizes.{Sizes as CellSizes}
 use Rattle.cleary_core.specs.Cells.{word_count}
 use Rattle.cleary_core.specs.Map.{Key, Has as HasKey, IsMap, KeepsMap}
 use Rattle.pair_rule.specs.declared.sizes.About.{About}
 use Rattle.pair_rule.specs.Numbers.{NoRepeats}
 use Rattle.region_root.specs.Layout.{most, place, region_of, IsPacked, key_of, keys_of, cells_of, words_each, region_words, KeepsRoots}
-use Rattle.region_root.specs.Maps.{InRegion, Acts, flagged}
+use Rattle.region_root.specs.Maps.{InRegion, flagged}
 use Rattle.region_root.specs.Compact.{IsCompact}
 use Rattle.region_root.specs.Names.{one_place, keys_long, place_in_range}
 use Rattle.region_root.specs.Work.{Added, HasLoaded}

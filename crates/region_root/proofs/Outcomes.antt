@@ -1,14 +1,15 @@
 -- What a call's end tells of the pass that made it.
-use Rattle.std.proofs.Common.{◌≡◌, ◌≢◌, ◌⊎◌, ℕ, suc, ◌+◌, ◌*◌, ◌^◌, ◌<◌, ◌≤◌, List, [], ◌∷◌, ◌++◌, length, Bool, true, false, Some, None, refl, sym, ap, ◌∙◌, subst, inl, inr, ⊎_elim, append-nil, arith}
+use Rattle.std.proofs.Common.{◌≡◌, ℕ, suc, ◌*◌, ◌^◌, ◌<◌, List, [], ◌∷◌, Bool, true, false, Some, None, refl, sym, ap, ◌∙◌, subst, append-nil, arith}
 use Rattle.std.specs.Prelude.{map}
 use Rattle.std.proofs.lemmas.List.{length-map}
-use Rattle.tree_shape.specs.Tree.{Has, RootStands}
-use Rattle.tdb_base.specs.History.{Vector, Act, Put, History, name_of}
-use Rattle.tdb_base.proofs.NameLemmas.{entry-named}
+use Rattle.tree_shape.specs.Tree.{Has}
+use Rattle.tdb_base.specs.History.{Vector, Act, Put, History, is_fresh, name_of}
+use Rattle.tdb_base.proofs.NameLemmas.{entry-named, allowed-other, names-differ, keeps-names}
+use Rattle.pair_rule.proofs.Histories.{legal_front}
 use Rattle.pair_rule.specs.declared.view.View.{View}
 use Rattle.pair_rule.specs.declared.sizes.About.{About}
 use Rattle.pair_rule.specs.declared.pass.PassOf.{PassOf}
-use Rattle.pair_rule.specs.Part.{Store, IsTable, root_pairs}
+use Rattle.pair_rule.specs.Part.{Store, IsTable}
 use Rattle.pair_rule.specs.Calls.{call, Called, IsNoName, KeepsBuffers}
 use Rattle.pair_rule.proofs.Catches.{names_by_seen, names_caught}
 use Rattle.pair_rule.proofs.Calling.{called_entry}
@@ -17,15 +18,15 @@ use Rattle.pair_rule.specs.Plays.{Caught}
 use Rattle.pair_rule.specs.Rest.{AtRest, names_of_callers, view}
 use Rattle.region_root.specs.declared.root.Regions.{Regions}
 use Rattle.region_root.specs.declared.root.Holding.{Holding}
-use Rattle.region_root.specs.Layout.{region_of, most, keys_of, IsPacked, KeepsRoots}
-use Rattle.region_root.specs.Maps.{roots_of, IsMapOf, AreRootsOf, IsFull}
+use Rattle.region_root.specs.Layout.{region_of, IsPacked, KeepsRoots}
+use Rattle.region_root.specs.Maps.{roots_of, IsMapOf, IsFull}
 use Rattle.region_root.specs.Compact.{compact}
 use Rattle.region_root.specs.Names.{are_names}
 use Rattle.region_root.specs.Plays.{part_of, Ending, deed, Told}
-use Rattle.region_root.specs.Told.{HasNoPlace, LockedOnce}
+use Rattle.region_root.specs.Told.{HasNoPlace, LockedOnce, Acted, flag_act}
 use Rattle.region_root.specs.Work.{Locked}
 use Rattle.region_root.proofs.Keys.{different, root_in}
-use Rattle.region_root.proofs.Resting.{caught_for, caught_as}
+use Rattle.region_root.proofs.Resting.{mark, one_name, caught_for, caught_as}
 
 abbrev V : Type 0
 V = View Regions
@@ -141,3 +142,45 @@ name_packed width flags store p r is vector id n =
 
 pub not_packed : (width flags : ℕ) (store : Store) (p : PassOf Regions) (id : ℕ) → AtRest (compact width flags) store p → IsTable width flags (compact width flags) store → (id < 2 ^ (2 * width) → ⊥) → IsNoName id (view p).seen
 not_packed width flags store p id r is big vector n = big (name_packed width flags store p r is vector id n).0
+
+-- a call on a named vector's flags
+module _ (width flags : ℕ) (store : Store) (is : IsTable width flags (compact width flags) store) (p u q : PassOf Regions) (g lock : ℕ) (rest : AtRest (compact width flags) store p) (l : Locked width flags store g lock p u)
+    (rests : AtRest (compact width flags) store q) (buffers : KeepsBuffers u q) (root : (view q).root ≡ record (view u).root { held = [] }) (x : ℕ) (m : List (ℕ × ℕ)) (act : Act) (old_one : is_fresh act ≡ false)
+    (told : Told l.hold.region m (Some (x, act)) (view u) (view q)) where
+  first_told : Told g m (Some (x, act)) (view p) (view q)
+  first_told = told_first width flags store is p u q g lock rest l rests buffers m (Some (x, act)) told
+
+  abbrev its : Vector
+  its = first_told.ends.0
+
+  caught_its : Caught (compact width flags) (deed (view p).number act its x ∷ []) (view p) (view q)
+  caught_its = subst (λ (h : History). Caught (compact width flags) h (view p) (view q)) first_told.ends.3 (caught_for width flags store (view p) (view q) first_told.calls is rest.seat.about_is first_told.caught)
+
+  its_name : (vector : Vector) → name_of (view p).seen vector ≡ Some x → its ≡ vector
+  its_name vector n =
+      let c = caught_its in
+      let count = (view q).about.flags in
+      let legal = c.sound.legal in
+      let before = legal_front count c.log (view q).seen record { more = deed (view p).number act its x ∷ []; whole = c.seen } legal in
+      let mine = allowed-other count c.log its x act (legal.each c.log (deed (view p).number act its x) [] c.seen) old_one in
+      names-differ count c.log before its vector x mine (keeps-names count (view p).seen c.log before c.begins vector x n)
+
+  pub acted : Acted width flags store act x p q
+  acted = record {
+    rest = rests;
+    entry = λ vector n. subst (λ (y : Vector). Caught (compact width flags) (deed (view p).number act y x ∷ []) (view p) (view q)) (its_name vector n) caught_its;
+    locked = locked_once width flags store is p u q g lock rest l rests buffers root;
+    buffers = quiet_others width flags store p q _ rest rests (all_buffers width flags store is p u q g lock rest l rests buffers) caught_its
+        (one_name (view p).numbers (deed (view p).number act its x) rest.seat.sound.mine ∙ ap mark old_one);
+  }
+
+-- a change of a flag gives no name
+pub flag_old : (set : Bool) (b : ℕ) (first : Bool) → is_fresh (flag_act set b first) ≡ false
+flag_old true b first = refl
+flag_old false b first = refl
+
+pub id_packed : (width flags : ℕ) (store : Store) (p : PassOf Regions) → AtRest (compact width flags) store p → (vector : Vector) (id : ℕ) → name_of (view p).seen vector ≡ Some id → IsPacked store.about id
+id_packed width flags store p r vector id n =
+    let s = r.seat.sound in
+    let k = (are_names (view p).about.flags (view p).seen s.legal).each vector id n in
+    subst (λ (y : About). IsPacked y id) r.seat.about_is (s.root_sound.packed id id k)

@@ -1,16 +1,15 @@
 -- A look without a lock, from its first look at the lock word to its second.
-use Rattle.std.proofs.Common.{◌≡◌, ◌≢◌, ◌⊎◌, ℕ, suc, ◌+◌, ◌*◌, ◌^◌, ◌<◌, ◌≤◌, List, [], ◌∷◌, length, Bool, true, false, Option, Some, None, refl, sym, ap, ◌∙◌, subst, inl, inr, ⊎_elim, eq-eqb}
-use Rattle.std.specs.Prelude.{MatchBool, slice_index}
+use Rattle.std.proofs.Common.{◌≡◌, ◌≢◌, ◌⊎◌, ℕ, suc, ◌<◌, List, [], ◌∷◌, Bool, true, false, Option, Some, None, refl, sym, ap, ◌∙◌, subst, inl, inr, ⊎_elim}
+use Rattle.std.specs.Prelude.{MatchBool}
 use Rattle.tree_shape.specs.Tree.{Has, RootStands, IsPart}
 use Rattle.tree_shape.proofs.Trees.{one_root}
-use Rattle.tdb_base.specs.History.{Vector, Put, History, name_of}
+use Rattle.tdb_base.specs.History.{Vector, Put, name_of}
 use Rattle.cleary_core.specs.Access.{Agrees}
 use Rattle.pair_rule.specs.declared.view.View.{View}
 use Rattle.pair_rule.specs.declared.sizes.About.{About}
 use Rattle.pair_rule.specs.declared.pass.PassOf.{PassOf}
 use Rattle.pair_rule.specs.Calls.{IsNoName, KeepsBuffers}
 use Rattle.pair_rule.specs.Part.{Store, IsTable}
-use Rattle.pair_rule.specs.Plays.{Caught}
 use Rattle.pair_rule.specs.Rest.{AtRest, view}
 use Rattle.pair_rule.proofs.Calling.{called_entry}
 use Rattle.pair_rule.proofs.Names.{root_more}
@@ -18,7 +17,7 @@ use Rattle.pair_nodes.specs.Roots.{RootPut}
 use Rattle.region_root.specs.declared.root.Regions.{Regions}
 use Rattle.region_root.specs.declared.root.Reading.{Reading}
 use Rattle.region_root.specs.Layout.{words_each, region_of, KeepsRoots}
-use Rattle.region_root.specs.Maps.{IsMapOf, InRegion}
+use Rattle.region_root.specs.Maps.{InRegion}
 use Rattle.region_root.specs.Compact.{IsEven, IsOdd, last, compact}
 use Rattle.region_root.specs.Plays.{Told, reading, peeking, reloaded, seconded, Unchanged, Believes, Closed}
 use Rattle.region_root.specs.Told.{FindsRoot, Peeked, RootAbsent, RootChanged}

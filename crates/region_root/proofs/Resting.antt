@@ -33,7 +33,7 @@ V = View Regions
 abbrev pub mark : Bool → ℕ
 mark b = if b then 1 else 0
 
-one_name : (ns : List ℕ) (e : Entry) → Has e.caller ns → names_of_callers ns (e ∷ []) ≡ mark (is_fresh e.act)
+pub one_name : (ns : List ℕ) (e : Entry) → Has e.caller ns → names_of_callers ns (e ∷ []) ≡ mark (is_fresh e.act)
 one_name ns e has = by e.act refl
   where
     by : (act : Act) → e.act ≡ act → names_of_callers ns (e ∷ []) ≡ mark (is_fresh e.act)

@@ -1,10 +1,10 @@
 -- What a holder can reach, and what becomes of the roots that its region's words keep.
-use Rattle.std.proofs.Common.{◌≡◌, ℕ, ◌+◌, ◌^◌, ◌<◌, List, [], ◌∷◌, refl, sym, ap, ◌∙◌, subst}
+use Rattle.std.proofs.Common.{◌≡◌, ℕ, ◌+◌, ◌^◌, ◌<◌, List, refl, sym, ap, ◌∙◌, subst}
 use Rattle.mix_hash.specs.declared.Place.{Place}
 use Rattle.tree_shape.specs.Tree.{Has}
 use Rattle.cleary_core.specs.declared.cells.Sizes.{Sizes as CellSizes}
 use Rattle.cleary_core.specs.Answers.{TellsFlags, flagged as keys_flagged}
-use Rattle.cleary_core.specs.Cells.{word_count, cell_at}
+use Rattle.cleary_core.specs.Cells.{word_count}
 use Rattle.cleary_core.specs.Map.{Key, KeepsMap}
 use Rattle.cleary_core.proofs.Packing.{cell_small}
 use Rattle.pair_rule.specs.declared.sizes.About.{About}

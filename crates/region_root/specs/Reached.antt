@@ -1,16 +1,11 @@
 -- Words that a reader or a holder reaches, one after another.
-use Rattle.std.proofs.Common.{◌≡◌, ℕ, ◌+◌, List, [], ◌∷◌, length, refl, sym, ap, ◌∙◌, subst}
+use Rattle.std.proofs.Common.{◌≡◌, ℕ, List, [], ◌∷◌, length, refl, sym, ap, ◌∙◌, subst}
 use Rattle.std.specs.Prelude.{slice_index}
-use Rattle.tree_shape.specs.Tree.{Has, IsPart}
-use Rattle.pair_rule.specs.declared.view.View.{View}
 use Rattle.pair_rule.specs.declared.pass.PassOf.{PassOf}
 use Rattle.pair_rule.specs.Part.{Store}
-use Rattle.pair_rule.specs.Rest.{AtRest, view}
+use Rattle.pair_rule.specs.Rest.{view}
 use Rattle.region_root.specs.declared.root.Regions.{Regions}
 use Rattle.region_root.specs.declared.root.Holding.{Holding}
-use Rattle.region_root.specs.declared.root.Reading.{Reading}
-use Rattle.region_root.specs.Layout.{words_each}
-use Rattle.region_root.specs.Compact.{compact}
 use Rattle.region_root.specs.Plays.{recopied, reloaded}
 use Rattle.region_root.specs.Work.{AtWork, HasLoaded, CanRead, ReadsOn, CanWrite, Rewrites, held_words, copy_in}
 

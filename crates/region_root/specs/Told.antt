@@ -3,7 +3,7 @@ use Rattle.std.specs.Prelude.{◌≡◌, ◌≢◌, ℕ, suc, ◌⊎◌, List, [
 use Rattle.std.specs.Prelude.{Result, MatchResult, MatchBool, Option, option_map}
 use Rattle.tree_shape.specs.Tree.{Has, RootStands}
 use Rattle.tdb_base.specs.Fakes.{counted}
-use Rattle.tdb_base.specs.History.{Vector, Put, name_of}
+use Rattle.tdb_base.specs.History.{Vector, Act, Put, Set, Clear, name_of}
 use Rattle.cleary_core.specs.Access.{Agrees}
 use Rattle.pair_nodes.specs.Roots.{RootPut}
 use Rattle.pair_rule.specs.declared.pass.PassOf.{PassOf}
@@ -22,7 +22,7 @@ use Rattle.region_root.specs.declared.root.Reading.{Reading}
 use Rattle.region_root.specs.Layout.{words_each, most, region_of, KeepsRoots}
 use Rattle.region_root.specs.Maps.{InRegion}
 use Rattle.region_root.specs.Compact.{IsOdd, last, compact}
-use Rattle.region_root.specs.Plays.{Told, Unchanged}
+use Rattle.region_root.specs.Plays.{Told, Unchanged, deed}
 use Rattle.region_root.specs.Work.{HasLoaded}
 
 -- every cell of the region g has another root than x: the call ended with no call of the history
@@ -94,3 +94,16 @@ ticked Changed count = count
 abbrev pub FindTold : ℕ → Bool → Holding → View Regions → View Regions → Type 0
 FindTold x answer h v w = MatchBool answer (Told h.region h.base (Some (x, Put false)) v w)
     (((flags : ℕ) → Has (x, flags) h.base → ⊥) × Told h.region h.base None v w)
+
+-- one call of the history did so with the vector that has this identifier, under one lock
+pub record Acted (width flags : ℕ) (store : Store) (act : Act) (id : ℕ) (old new : PassOf Regions) : Type 0 where
+  pub rest : AtRest (compact width flags) store new
+  pub entry : (vector : Vector) → name_of (view old).seen vector ≡ Some id
+      → Caught (compact width flags) (deed (view old).number act vector id ∷ []) (view old) (view new)
+  pub locked : LockedOnce (view old) (view new)
+  pub buffers : new ≡ record old { seat = new.seat }
+
+-- a flag is set, or cleared, and this says whether it changed
+abbrev pub flag_act : Bool → ℕ → Bool → Act
+flag_act true b first = Set b first
+flag_act false b first = Clear b first

@@ -3,7 +3,7 @@
 
 mod access;
 mod find;
-mod flags;
+mod flag;
 mod held;
 mod lock;
 mod peek;
@@ -13,6 +13,8 @@ mod root;
 mod steps;
 mod words;
 
+pub use find::{find_id, root_pair};
+pub use flag::{clear_flag, flags, set_flag};
 pub use peek::{Peek, peek_root};
 pub use put::put_root;
 pub use root::{CompactRoot, Holding, Reading, Regions};

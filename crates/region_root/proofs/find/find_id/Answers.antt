@@ -1,4 +1,4 @@
-use Rattle.std.proofs.Common.{arith, refl, sym, ap, ◌∙◌, ◌≡◌, ◌*◌, ◌^◌, ◌<◌, subst, true, false, ℕ}
+use Rattle.std.proofs.Common.{refl}
 use Rattle.region_root.proofs.Outcomes.{not_packed}
 use Rattle.pair_rule.proofs.Calling.{caught_still}
 use Rattle.region_root.specs.Compact.{compact}

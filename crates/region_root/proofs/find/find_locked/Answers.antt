@@ -1,4 +1,4 @@
-use Rattle.std.proofs.Common.{ap, sym, subst, ◌∙◌, None}
+use Rattle.std.proofs.Common.{ap, subst, ◌∙◌, None}
 use Rattle.pair_rule.specs.declared.pass.PassOf.{PassOf}
 use Rattle.region_root.specs.declared.root.Regions.{Regions}
 use Rattle.pair_rule.specs.Rest.{view}

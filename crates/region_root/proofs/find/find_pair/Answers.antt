@@ -1,13 +1,10 @@
-use Rattle.std.proofs.Common.{arith, sym, ap, ◌∙◌, ◌≡◌, ◌∷◌, [], subst, true, false, Bool, Some, None, ℕ, List}
+use Rattle.std.proofs.Common.{arith, ap, ◌≡◌, [], true, false, Bool}
 use Rattle.std.specs.Prelude.{MatchBool}
-use Rattle.tree_shape.specs.Tree.{Has}
-use Rattle.tdb_base.specs.History.{Put}
 use Rattle.pair_rule.specs.Rest.{view}
 use Rattle.pair_rule.specs.Calls.{Called, IsNoName}
 use Rattle.pair_rule.specs.Plays.{Caught}
 use Rattle.mix_hash.specs.declared.Place.{Place}
 use Rattle.region_root.specs.Compact.{compact}
-use Rattle.region_root.specs.Plays.{Told}
 use Rattle.region_root.specs.Told.{FindTold}
 use Rattle.region_root.proofs.Outcomes.{locked_once, all_buffers, told_first, found_by, missed_by}
 use Rattle.region_root.proofs.find.find_pair.Goals as goal

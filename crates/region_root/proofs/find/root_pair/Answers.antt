@@ -1,4 +1,4 @@
-use Rattle.std.proofs.Common.{arith, refl, sym, ap, ◌∙◌, ◌≡◌, ◌<◌, ◌^◌, subst, ℕ}
+use Rattle.std.proofs.Common.{arith, refl, sym, ap, ◌∙◌, ◌≡◌, subst, ℕ}
 use Rattle.packed_word.specs.Word.{pair_of}
 use Rattle.tree_shape.specs.Tree.{Has}
 use Rattle.pair_rule.specs.Rest.{view}

@@ -2,8 +2,7 @@ use Rattle.std.proofs.Common.{arith, sym, ap, ◌∙◌, ◌+◌, subst, ℕ, Li
 use Rattle.pair_rule.specs.Plays.{first_root}
 use Rattle.pair_rule.specs.Rest.{view}
 use Rattle.region_root.specs.declared.root.Holding.{Holding}
-use Rattle.cleary_core.specs.Cells.{sizes_of}
-use Rattle.region_root.specs.Layout.{cells_of, start, KeepsRoots}
+use Rattle.region_root.specs.Layout.{start, KeepsRoots}
 use Rattle.region_root.specs.Maps.{InRegion}
 use Rattle.region_root.specs.Work.{held_words, CanWrite, Added}
 use Rattle.region_root.specs.Reached.{held_is}

@@ -1,4 +1,4 @@
-use Rattle.std.proofs.Common.{arith, sym, ap, ◌≡◌, ◌<◌, ◌^◌, subst, ℕ, List}
+use Rattle.std.proofs.Common.{arith, sym, ◌≡◌, ◌<◌, ◌^◌, subst, ℕ, List}
 use Rattle.tree_shape.specs.Tree.{Has}
 use Rattle.pair_rule.specs.Rest.{view}
 use Rattle.region_root.specs.declared.root.Holding.{Holding}

@@ -1,4 +1,4 @@
-use Rattle.std.proofs.Common.{arith, sym, ap, ◌<◌, ◌^◌, subst, ℕ, List}
+use Rattle.std.proofs.Common.{arith, sym, ◌<◌, ◌^◌, subst, ℕ, List}
 use Rattle.pair_rule.specs.Rest.{view}
 use Rattle.region_root.specs.declared.root.Holding.{Holding}
 use Rattle.mix_hash.specs.declared.Place.{Place}

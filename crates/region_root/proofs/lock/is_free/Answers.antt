@@ -1,4 +1,4 @@
-use Rattle.std.proofs.Common.{arith, sym, ap, ◌∙◌, ◌≡◌, ◌%◌, ◌*◌, subst, ⊎_elim, ℕ, suc}
+use Rattle.std.proofs.Common.{arith, ◌≡◌, ◌%◌, ⊎_elim}
 use Rattle.std.proofs.lemmas.Bool.{eqb-true}
 use Rattle.region_root.specs.Compact.{IsEven, IsOdd}
 use Rattle.region_root.specs.Laws.{even_or_odd}

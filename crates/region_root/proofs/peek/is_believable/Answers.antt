@@ -1,4 +1,4 @@
-use Rattle.std.proofs.Common.{arith, true, false, inl, inr, ⊎_elim, ◌≡◌, ◌⊎◌, ◌≤◌, ◌<◌, ◌%◌, ◌*◌, ℕ, suc}
+use Rattle.std.proofs.Common.{arith, inl, inr, ⊎_elim, ◌≡◌, ◌%◌}
 use Rattle.std.proofs.lemmas.Bool.{eqb-true, eqb-false}
 use mathlib.Core.Logic.{dite}
 use native.Mathlib.Decide.{ℕ_discrete}

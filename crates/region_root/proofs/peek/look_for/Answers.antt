@@ -1,8 +1,8 @@
-use Rattle.std.proofs.Common.{arith, refl, sym, ap, ◌∙◌, ◌≡◌, ◌+◌, ◌<◌, subst, ℕ, List}
+use Rattle.std.proofs.Common.{arith, sym, ap, ◌∙◌, ◌+◌, ◌<◌, subst, ℕ}
 use Rattle.pair_rule.specs.Plays.{first_root}
 use Rattle.mix_hash.specs.declared.Place.{Place}
-use Rattle.region_root.specs.Layout.{regions, start, place}
-use Rattle.region_root.specs.Work.{HasLoaded, CanRead}
+use Rattle.region_root.specs.Layout.{regions, start}
+use Rattle.region_root.specs.Work.{CanRead}
 use Rattle.region_root.proofs.Keys.{home_inside, words_of, finds_root}
 use Rattle.region_root.proofs.Tables.{is_compact, cells_are}
 use Rattle.region_root.specs.Names.{region_below}

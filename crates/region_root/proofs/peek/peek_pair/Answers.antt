@@ -1,10 +1,8 @@
-use Rattle.std.proofs.Common.{arith, refl, sym, ap, ◌∙◌, ◌≡◌, ◌≢◌, ◌∷◌, [], subst, Bool, true, false, ℕ}
-use Rattle.pair_rule.specs.Rest.{view}
+use Rattle.std.proofs.Common.{arith, refl, ap, subst}
 use Rattle.mix_hash.specs.declared.Place.{Place}
-use Rattle.region_root.specs.Layout.{region_of}
 use Rattle.region_root.specs.Plays.{reading}
 use Rattle.region_root.specs.Told.{FindsRoot}
-use Rattle.region_root.proofs.Peeking.{first_peeked, first_changed, peeked, changed, seen, absent}
+use Rattle.region_root.proofs.Peeking.{first_changed, peeked, changed, seen, absent}
 use Rattle.region_root.proofs.peek.peek_pair.Goals as goal
 
 pub returns-then-not-is_believable-clause-told : goal.returns-then-not-is_believable-clause-told

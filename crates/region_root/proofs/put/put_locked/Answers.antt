@@ -1,6 +1,5 @@
-use Rattle.std.proofs.Common.{ap, subst, ◌≡◌, ◌∷◌, []}
+use Rattle.std.proofs.Common.{ap}
 use Rattle.pair_rule.specs.Rest.{view}
-use Rattle.region_root.specs.declared.root.Holding.{Holding}
 use Rattle.region_root.specs.Work.{held_words}
 use Rattle.region_root.proofs.Outcomes.{told_back}
 use Rattle.region_root.proofs.put.put_locked.Goals as goal

@@ -1,4 +1,4 @@
-use Rattle.std.proofs.Common.{arith, sym, ap, ◌∙◌, ◌≡◌, subst, Result, Ok, Err, Bool, ℕ}
+use Rattle.std.proofs.Common.{arith, sym, ap, subst, Result, Ok, Err, Bool}
 use Rattle.std.specs.Prelude.{IfOk, OnErr}
 use Rattle.pair_rule.specs.declared.full.RootsFull.{RootsFull}
 use Rattle.pair_rule.specs.Rest.{view}

@@ -1,4 +1,4 @@
-use Rattle.std.proofs.Common.{arith, refl, sym, ap, ◌∙◌, ◌≡◌, ◌*◌, ◌^◌, ◌<◌, subst, ℕ}
+use Rattle.std.proofs.Common.{arith, refl, sym, ap, ◌≡◌, ◌*◌, ◌^◌, ◌<◌, subst, ℕ}
 use Rattle.packed_word.specs.Word.{pair_of}
 use Rattle.packed_word.proofs.Parts.{pair_below}
 use Rattle.pair_rule.proofs.Widths.{layout_of, part_below}

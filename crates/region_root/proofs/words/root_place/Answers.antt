@@ -1,8 +1,7 @@
-use Rattle.std.proofs.Common.{sym, ap, ◌∙◌, ◌≡◌, ◌<◌, ◌*◌, ◌^◌, subst, ℕ}
+use Rattle.std.proofs.Common.{sym, ap, ◌∙◌, ◌<◌, subst, ℕ}
 use Rattle.mix_hash.specs.Hash.{mix_of}
 use Rattle.mix_hash.specs.Places.{place_of}
 use Rattle.mix_hash.specs.declared.Place.{Place}
-use Rattle.pair_rule.specs.declared.sizes.Sizes.{Sizes}
 use Rattle.region_root.specs.Layout.{place, regions}
 use Rattle.region_root.specs.Names.{region_below}
 use Rattle.region_root.proofs.Tables.{is_compact}

@@ -1,10 +1,10 @@
-use Rattle.std.proofs.Common.{arith, refl, sym, ap, ◌∙◌, ◌≡◌, ◌≢◌, ◌*◌, ◌^◌, ◌<◌, ◌≤◌, ◌+◌, ◌-◌, ◌/◌, ◌%◌, subst, true, false, Bool, ℕ, suc, mul-le-mul_right}
+use Rattle.std.proofs.Common.{arith, sym, ap, ◌∙◌, ◌≡◌, ◌*◌, ◌^◌, ◌<◌, ◌≤◌, ◌+◌, ◌-◌, ◌/◌, ◌%◌, subst, false, ℕ, suc, mul-le-mul_right}
 use Rattle.std.proofs.lemmas.Bool.{eqb-false}
 use Rattle.std.proofs.lemmas.Nat.{shr_split, shr_below, mod_below, pow_pos, pow-add}
 use Rattle.std.proofs.Math.Nat.{pow-suc, add-mul, mod-eq_of_lt}
 use Rattle.std.proofs.Math.Pow.{pow_mono}
 use Rattle.tdb_base.specs.History.{has_bit}
-use Rattle.region_root.proofs.flags.with_flag.Goals as goal
+use Rattle.region_root.proofs.flag.with_flag.Goals as goal
 
 -- a bit that is clear can be added below any higher bound
 room : (n b f : ℕ) → b < f → n < 2 ^ f → has_bit n b ≡ false → n + 2 ^ b < 2 ^ f
