@@ -1,0 +1,14 @@
+pub mod Maps
+pub mod Parts
+pub mod Rules
+pub mod Endings
+pub mod Catching
+pub mod Holders
+pub mod Readers
+pub mod Tables
+pub mod Working
+pub mod Resting
+pub mod Keys
+pub mod Outcomes
+pub mod Peeking
+pub mod Writing

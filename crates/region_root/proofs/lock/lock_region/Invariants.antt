@@ -1,0 +1,9 @@
+use Rattle.std.proofs.Common.{◌≡◌}
+use Rattle.region_root.proofs.lock.lock_region.Given as goal
+
+abbrev pub invariant-loop : goal.invariant-loop
+invariant-loop g l = record {
+  next : (goal.iterator-loop g).can_next l.iterator';
+  finite : (goal.iterator-loop g).is_finite l.iterator';
+  same : l.pass ≡ l.initial.pass;
+}

@@ -1,0 +1,111 @@
+-- The rule of a compact root table: a free region's words keep the map of its names; a held one's are the
+-- holder's copy; and a reader may believe what it loaded, where the lock word is still what it was.
+use Rattle.std.specs.Prelude.{◌≡◌, ℕ, suc, ◌*◌, ◌<◌, ◌≤◌, List, [], map, length, false, slice_index, Some}
+use mathlib.Core.Option.{some}
+use lib.ListN.{get_elem?}
+use Rattle.tree_shape.specs.Tree.{Has}
+use Rattle.tdb_base.specs.History.{Vector, History, name_of}
+use Rattle.pair_rule.specs.declared.view.View.{View}
+use Rattle.pair_rule.specs.declared.sizes.About.{About}
+use Rattle.pair_rule.specs.Laws.{IsAbout}
+use Rattle.pair_rule.specs.Part.{Part}
+use Rattle.region_root.specs.declared.root.Regions.{Regions}
+use Rattle.region_root.specs.declared.root.Holding.{Holding}
+use Rattle.region_root.specs.declared.root.Reading.{Reading}
+use Rattle.region_root.specs.Layout.{IsSized, count, regions, most, lock_of, part, IsPacked, KeepsRoots}
+use Rattle.region_root.specs.Maps.{roots_of, IsMapOf, FewEach, IsFull}
+
+-- A lock word is even where its region is free, and odd where it is held.
+abbrev pub IsEven : ℕ → Type 0
+IsEven n = (half : ℕ) × (n ≡ 2 * half)
+
+abbrev pub IsOdd : ℕ → Type 0
+IsOdd n = (half : ℕ) × (n ≡ suc (2 * half))
+
+-- the last even value of a lock word, which may come again, so that no reader believes it
+abbrev pub last : ℕ
+last = 18446744073709551614
+
+-- what a pass knows of regions at first
+abbrev pub nothing : Regions
+nothing = record { held = []; reader = []; peeks = 0; locks = 0 }
+
+-- what a compact store's table is about
+abbrev pub IsCompact : About → Type 0
+IsCompact about = IsAbout (IsSized about.width about.flags) (count about.width about.flags) about
+
+-- A holder: the lock word is the odd value that it wrote, its copy is what the region's words are now, and
+-- its base is the map of the region's names.
+pub record Holds (about : About) (log : History) (ws : List ℕ) (h : Holding) : Type 0 where
+  pub inside : h.region < regions about
+  pub lock_is : lock_of ws h.region ≡ h.lock
+  pub odd : IsOdd h.lock
+  pub copy_is : h.copy ≡ part about ws h.region
+  pub base_is : IsMapOf about h.region log h.base
+  pub few : length h.base ≤ most about
+
+-- A reader: where its first value is even and not the last one, the lock word has not fallen below it, and
+-- while it is still that value, what was loaded stands in the region's words.
+pub record Reads (about : About) (ws : List ℕ) (q : Reading) : Type 0 where
+  pub inside : q.region < regions about
+  pub above : IsEven q.first → q.first < last → q.first ≤ lock_of ws q.region
+  pub same : IsEven q.first → q.first < last → lock_of ws q.region ≡ q.first
+      → (i n : ℕ) → Has (i, n) q.loads → slice_index (part about ws q.region) i ≡ n
+
+abbrev pub held_of : View Regions → List Holding
+held_of v = v.root.held
+
+-- what the rule says of one view
+pub record Viewed (about : About) (log : History) (ws : List ℕ) (v : View Regions) : Type 0 where
+  pub idle : v.busy ≡ false → v.root.held ≡ []
+  pub holds : (h : Holding) → Has h v.root.held → Holds about log ws h
+  pub reads : (q : Reading) → Has q v.root.reader → Reads about ws q
+
+-- a region is held by one view, where its lock word is odd
+pub record Locks (about : About) (ws : List ℕ) (helds : List (List Holding)) : Type 0 where
+  pub sole : (j k : ℕ) (hs is : List Holding) (h i : Holding) → get_elem? helds j ≡ some hs
+      → get_elem? helds k ≡ some is → Has h hs → Has i is → h.region ≡ i.region → j ≡ k
+  pub taken : (g : ℕ) → g < regions about → IsOdd (lock_of ws g)
+      → (j : ℕ) × (hs : List Holding) × (h : Holding) × (get_elem? helds j ≡ some hs) × Has h hs
+      × (h.region ≡ g)
+
+-- a free region's words keep the map of its names
+pub record Free (about : About) (log : History) (ws : List ℕ) (g : ℕ) : Type 0 where
+  pub map : List (ℕ × ℕ)
+  pub keeps : KeepsRoots about (part about ws g) map
+  pub is_map : IsMapOf about g log map
+
+-- The rule on the root words, the history and what each view knows. No act is ruled out here.
+pub record Compact (about : About) (log : History) (ws : List ℕ) (views : List (View Regions)) : Type 0 where
+  pub is_about : IsCompact about
+  pub long : length ws ≡ about.root_words
+  pub packed : (v : Vector) (id : ℕ) → name_of log v ≡ Some id → IsPacked about id
+  pub free : (g : ℕ) → g < regions about → IsEven (lock_of ws g) → Free about log ws g
+  pub locks : Locks about ws (map held_of views)
+  pub each : (j : ℕ) (v : View Regions) → get_elem? views j ≡ some v → Viewed about log ws v
+
+-- what the rule says of one view by itself
+pub record KnowsRegions (about : About) (v : View Regions) : Type 0 where
+  pub is_about : IsCompact about
+  pub packed : (id pair : ℕ) → Has (id, pair) (roots_of v.seen) → IsPacked about id
+  pub few : FewEach about (roots_of v.seen)
+  pub idle : v.busy ≡ false → v.root.held ≡ []
+
+-- how the roots of a whole store lie: an identifier is its root, and no region has more roots than cells
+pub record Housed (about : About) (roots : List (ℕ × ℕ)) : Type 0 where
+  pub itself : (id pair : ℕ) → Has (id, pair) roots → (pair ≡ id) × IsPacked about id
+  pub few : FewEach about roots
+
+-- what a compact root table gives to contracts, where a part of a pair has so many bits, and a vector so many
+-- flags
+abbrev pub compact : ℕ → ℕ → Part Regions
+compact width flags = record {
+  sized = IsSized width flags;
+  count = count width flags;
+  roots = λ about h t. roots_of h;
+  house = Housed;
+  is_full = IsFull;
+  sound = KnowsRegions;
+  split = λ t. nothing;
+  join = λ t u. t;
+}

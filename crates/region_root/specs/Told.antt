@@ -1,0 +1,109 @@
+-- What the calls on a compact store's roots leave of a pass, beside what they leave in every store.
+use Rattle.std.specs.Prelude.{◌≡◌, ◌≢◌, ℕ, suc, ◌⊎◌, List, [], ◌∷◌, length, Bool, true, false, Some, None}
+use Rattle.std.specs.Prelude.{Result, MatchResult, MatchBool, Option, option_map}
+use Rattle.tree_shape.specs.Tree.{Has, RootStands}
+use Rattle.tdb_base.specs.Fakes.{counted}
+use Rattle.tdb_base.specs.History.{Vector, Act, Put, Set, Clear, name_of}
+use Rattle.cleary_core.specs.Access.{Agrees}
+use Rattle.pair_nodes.specs.Roots.{RootPut}
+use Rattle.pair_rule.specs.declared.pass.PassOf.{PassOf}
+use Rattle.pair_rule.specs.Calls.{IsNoName}
+use Rattle.pair_rule.specs.Part.{Store}
+use Rattle.pair_rule.specs.Plays.{Caught}
+use Rattle.pair_rule.specs.Rest.{AtRest, view}
+use Rattle.region_root.specs.declared.peek.Peek.{Peek}
+use Rattle.region_root.specs.declared.peek.Peek.TheVariants.{Seen, Absent, Changed}
+use Rattle.pair_rule.specs.declared.full.RootsFull.{RootsFull}
+use Rattle.pair_rule.specs.declared.view.View.{View}
+use Rattle.pair_rule.specs.declared.sizes.About.{About}
+use Rattle.region_root.specs.declared.root.Regions.{Regions}
+use Rattle.region_root.specs.declared.root.Holding.{Holding}
+use Rattle.region_root.specs.declared.root.Reading.{Reading}
+use Rattle.region_root.specs.Layout.{words_each, most, region_of, KeepsRoots}
+use Rattle.region_root.specs.Maps.{InRegion}
+use Rattle.region_root.specs.Compact.{IsOdd, last, compact}
+use Rattle.region_root.specs.Plays.{Told, Unchanged, deed}
+use Rattle.region_root.specs.Work.{HasLoaded}
+
+-- every cell of the region g has another root than x: the call ended with no call of the history
+pub record HasNoPlace (about : About) (x g : ℕ) (base : List (ℕ × ℕ)) (v w : View Regions) : Type 0 where
+  pub words : List ℕ
+  pub keeps : KeepsRoots about words base
+  pub absent : (flags : ℕ) → Has (x, flags) base → ⊥
+  pub all : length base ≡ most about
+  pub told : Told g base None v w
+
+-- a root was put under the lock of its region
+abbrev pub PutTold : About → ℕ → Result Bool RootsFull → Holding → View Regions → View Regions → Type 0
+PutTold about x result h v w = MatchResult result (λ fresh. Told h.region h.base (Some (x, Put fresh)) v w)
+    (λ _. HasNoPlace about x h.region h.base v w)
+
+-- the pass took one lock and gave it back; its reader part is as it was
+abbrev pub LockedOnce : View Regions → View Regions → Type 0
+LockedOnce v w = w.root ≡ record v.root { locks = suc v.root.locks }
+
+-- what was reached decides of the root x: whatever words of its region agree with it and keep some map, the
+-- answer says whether that map has the root
+pub record FindsRoot (about : About) (x : ℕ) (p : PassOf Regions) (answer : Bool) : Type 0 where
+  pub decides : (words : List ℕ) (map : List (ℕ × ℕ)) → length words ≡ words_each about
+      → Agrees (HasLoaded p) words → KeepsRoots about words map → InRegion about (region_of about x) map
+      → MatchBool answer ((flags : ℕ) × Has (x, flags) map) ((flags : ℕ) → Has (x, flags) map → ⊥)
+
+-- the pass read a region once without its lock, where it wanted the root x
+pub record Peeked (about : About) (x : ℕ) (v w : View Regions) : Type 0 where
+  pub reader : Reading
+  pub root_is : w.root ≡ record v.root { reader = reader ∷ []; peeks = suc v.root.peeks }
+  pub pair_is : reader.pair ≡ x
+  pub region_is : reader.region ≡ region_of about x
+
+module _ (width flags : ℕ) (store : Store) (x : ℕ) (old new : PassOf Regions) where
+  -- at one moment the region's words had no such root: its vector has no name that the pass has then seen. The
+  -- lock word was even, not its last even value, and the same at both looks
+  pub record RootAbsent : Type 0 where
+    pub rest : AtRest (compact width flags) store new
+    pub no_call : Caught (compact width flags) [] (view old) (view new)
+    pub no_id : IsNoName x (view new).seen
+    pub no_name : (vector : Vector)
+        → RootStands store.about.width store.about.slots (view old).known x vector
+        → length vector ≡ store.about.slots → name_of (view new).seen vector ≡ None
+    pub looks : (q : Reading) → (view new).root.reader ≡ q ∷ [] → Unchanged q.second q
+    pub buffers : new ≡ record old { seat = new.seat }
+
+  -- a holder was there, or the lock word can't be trusted: it was odd or its last even value at the first look,
+  -- or another one at the second
+  pub record RootChanged : Type 0 where
+    pub rest : AtRest (compact width flags) store new
+    pub no_call : Caught (compact width flags) [] (view old) (view new)
+    pub cause : (q : Reading) → (view new).root.reader ≡ q ∷ []
+        → (IsOdd q.first ⊎ (q.first ≡ last)) ⊎ (q.second ≢ q.first)
+    pub buffers : new ≡ record old { seat = new.seat }
+
+  -- what each answer of a peek tells
+  abbrev pub PeekTold : Peek → Type 0
+  PeekTold (Seen id) = RootPut (compact width flags) store x id false old new × (id ≡ x)
+  PeekTold Absent = RootAbsent
+  PeekTold Changed = RootChanged
+
+-- how many ticks there were, where there had been so many: one more where a call was made
+abbrev pub ticked : Peek → Option ℕ → Option ℕ
+ticked (Seen id) count = option_map counted count
+ticked Absent count = count
+ticked Changed count = count
+
+-- a root was looked for under the lock of its region
+abbrev pub FindTold : ℕ → Bool → Holding → View Regions → View Regions → Type 0
+FindTold x answer h v w = MatchBool answer (Told h.region h.base (Some (x, Put false)) v w)
+    (((flags : ℕ) → Has (x, flags) h.base → ⊥) × Told h.region h.base None v w)
+
+-- one call of the history did so with the vector that has this identifier, under one lock
+pub record Acted (width flags : ℕ) (store : Store) (act : Act) (id : ℕ) (old new : PassOf Regions) : Type 0 where
+  pub rest : AtRest (compact width flags) store new
+  pub entry : (vector : Vector) → name_of (view old).seen vector ≡ Some id
+      → Caught (compact width flags) (deed (view old).number act vector id ∷ []) (view old) (view new)
+  pub locked : LockedOnce (view old) (view new)
+  pub buffers : new ≡ record old { seat = new.seat }
+
+-- a flag is set, or cleared, and this says whether it changed
+abbrev pub flag_act : Bool → ℕ → Bool → Act
+flag_act true b first = Set b first
+flag_act false b first = Clear b first

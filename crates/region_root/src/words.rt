@@ -1,0 +1,109 @@
+//! Where the words of a compact root table lie.
+ghost use Rattle.std.specs.Prelude.{◌≡◌, ◌+◌, ◌^◌, ◌<◌, ◌≤◌};
+ghost use Rattle.packed_word.specs.Word.{pair_of};
+ghost use Rattle.pair_rule.specs.Part.{IsTable};
+ghost use Rattle.pair_rule.specs.Plays.{first_root};
+ghost use Rattle.region_root.specs.Compact.{compact};
+ghost use Rattle.region_root.specs.Layout.{IsSized, region_count, region_words, regions, start, words_each};
+ghost use Rattle.region_root.specs.Layout.{IsPacked, place};
+
+use crate::root::CompactRoot;
+use cleary_core::Region;
+use mix_hash::{Place, mix, split};
+use packed_word::Layout;
+use pair_rule::{PairTable, Sizes};
+
+// The present bit.
+const PRESENT: u64 = 1 << 63;
+
+// How many regions there are.
+#[inline]
+#[tactic(auto, unfolding(crate::specs::Layout::region_count))]
+pub(crate) fn count_regions(sizes: &Sizes) -> usize
+    requires { (sizes.now.region ≤ sizes.now.roots) × (sizes.now.roots ≤ sizes.now.region + 18) }
+    ensures same { result ≡ region_count sizes.now }
+    ensures small { result ≤ 262144 }
+{
+    1 << (sizes.roots - sizes.region)
+}
+
+// How many words each has.
+#[inline]
+pub(crate) fn count_words<const W: u32, const F: u32>(sizes: &Sizes) -> usize
+    requires { IsSized W F sizes.now }
+    ensures same { result ≡ region_words W F sizes.now }
+    ensures small { result ≤ 4224 }
+{
+    let region = Region::<W, F>::over(sizes.roots, sizes.region);
+    region.words()
+}
+
+// The first root word of the table.
+#[inline]
+fn first_word(nodes: u32) -> usize
+    requires { nodes ≤ 25 }
+    ensures same { result ≡ 1 + 2 ^ nodes }
+    ensures small { result ≤ 33554433 }
+{
+    1 + (1 << nodes)
+}
+
+// The lock word of a region.
+#[inline]
+pub(crate) fn lock_word<const W: u32, const F: u32>(
+    table: &PairTable<CompactRoot<W, F>, W, F>,
+    region: u64,
+) -> usize
+    requires { region < regions table.now.about }
+    ensures place { result ≡ first_root table.now.about + region }
+    ensures inside { result < table.now.table.words }
+{
+    let sizes = table.sizes();
+    first_word(sizes.nodes) + region as usize
+}
+
+// Where the words of a region begin.
+#[inline]
+pub(crate) fn region_start<const W: u32, const F: u32>(
+    table: &PairTable<CompactRoot<W, F>, W, F>,
+    region: u64,
+) -> usize
+    requires { region < regions table.now.about }
+    ensures place { result ≡ first_root table.now.about + start table.now.about region }
+    ensures inside { result + words_each table.now.about ≤ table.now.table.words }
+{
+    let sizes = table.sizes();
+    let before = count_regions(sizes) + region as usize * count_words::<W, F>(sizes);
+    first_word(sizes.nodes) + before
+}
+
+// Where the root belongs, which is a packed pair.
+#[inline]
+pub(crate) fn root_place<const W: u32, const F: u32>(
+    table: &PairTable<CompactRoot<W, F>, W, F>,
+    pair: u64,
+) -> Place
+    requires { IsPacked table.now.about pair }
+    ensures same { result ≡ place table.now.about pair }
+    ensures region { result.region < regions table.now.about }
+    ensures store { IsTable W F (compact W F) table.now }
+{
+    let sizes = table.sizes();
+    split::<W>(mix::<W>(pair), sizes.roots, sizes.region)
+}
+
+// The root of two parts, as one number.
+#[inline]
+pub(crate) fn pack_root<const W: u32, const F: u32>(
+    table: &PairTable<CompactRoot<W, F>, W, F>,
+    left: u64,
+    right: u64,
+) -> u64
+    requires left { left < 2 ^ table.now.about.width }
+    requires right { right < 2 ^ table.now.about.width }
+    ensures same { result ≡ pair_of table.now.about.width left right }
+    ensures packed { IsPacked table.now.about result }
+{
+    let _ = table.slots();
+    Layout::<W, F>::pack(left, right) - PRESENT
+}
