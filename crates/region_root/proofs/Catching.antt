@@ -12,7 +12,7 @@ use Rattle.pair_rule.specs.declared.view.View.{View}
 use Rattle.pair_rule.specs.declared.sizes.About.{About}
 use Rattle.pair_rule.specs.Paths.{node_buckets, size}
 use Rattle.pair_rule.specs.Plays.{Caught, first_root}
-use Rattle.pair_rule.specs.Rule.{at, Named, Kept}
+use Rattle.pair_rule.specs.Rule.{at, Named, StoreRule}
 use Rattle.pair_rule.proofs.Advance.{catch, SameNodes, united, catches}
 use Rattle.region_root.specs.declared.root.Regions.{Regions}
 use Rattle.region_root.specs.Maps.{roots_of, IsMapOf, InRegion}
@@ -40,7 +40,7 @@ in_region about log ws views p g map m x flags has = let o = m.only x flags has 
 
 module _ (S : Type 0) (about : About) where
   abbrev pub Rule : State S V → Type 0
-  Rule = Kept about ((part_of about).roots about) (Compact about)
+  Rule = StoreRule about ((part_of about).roots about) (Compact about)
 
   abbrev pub behind : List ℕ → List ℕ
   behind ws = drop (suc (size (node_buckets about))) ws

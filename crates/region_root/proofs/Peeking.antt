@@ -4,7 +4,7 @@ use Rattle.std.specs.Prelude.{MatchBool}
 use Rattle.tree_shape.specs.Tree.{Has, RootStands, IsPart}
 use Rattle.tree_shape.proofs.Trees.{one_root}
 use Rattle.tdb_base.specs.History.{Vector, Put, name_of}
-use Rattle.cleary_core.specs.Access.{Agrees}
+use Rattle.cleary_core.specs.Access.{HasReached}
 use Rattle.pair_rule.specs.declared.view.View.{View}
 use Rattle.pair_rule.specs.declared.sizes.About.{About}
 use Rattle.pair_rule.specs.declared.pass.PassOf.{PassOf}
@@ -116,7 +116,7 @@ module _ (width flags : ℕ) (store : Store) (is : IsTable width flags (compact 
     about_t : (view t).about ≡ store.about
     about_t = ap (λ (v : V). v.about) t_is ∙ rest_p.seat.about_is
 
-    agrees : Agrees (HasLoaded t) b.words
+    agrees : HasReached (HasLoaded t) b.words
     agrees i w h = b.loads_are i w (subst (λ (r : Reading). Has (i, w) r.loads) (head_of h.0 q2 (view t).root.reader h.1 reader_t) h.2)
 
     decides : (found : Bool) → FindsRoot store.about x t found → MatchBool found ((f : ℕ) × Has (x, f) b.map) ((f : ℕ) → Has (x, f) b.map → ⊥)

@@ -11,7 +11,7 @@ use Rattle.pair_rule.specs.declared.pass.PassOf.{PassOf}
 use Rattle.pair_rule.specs.Part.{Store, IsTable}
 use Rattle.pair_rule.specs.Plays.{Caught, first_root}
 use Rattle.pair_rule.specs.Rest.{SeatRests, AtRest, names_of_callers, view}
-use Rattle.pair_rule.specs.Rule.{Kept}
+use Rattle.pair_rule.specs.Rule.{StoreRule}
 use Rattle.pair_rule.proofs.Catches.{names_by_fresh, rests_caught}
 use Rattle.pair_rule.proofs.Rests.{few_names_given}
 use Rattle.region_root.specs.declared.root.Regions.{Regions}
@@ -73,9 +73,9 @@ module _ (width flags : ℕ) (store : Store) where
   module _ (h : Holding) (p : PassOf Regions) (w : AtWork width flags store h p) where
     pub free_allowed : (key : About) (slots word new : ℕ) (what : Ending) (next : List (ℕ × ℕ)) → key ≡ store.about → first_root store.about + h.region ≡ word → IsNext h.lock new → KeepsRoots store.about h.copy next
         → MayEnd store.about (view p).known h.region h.base what next
-        → Allows (Kept key ((part_of key).roots key) (Compact key)) slots p.seat.id p.seat.me word (λ _. new) (frees_tells what (step slots word new 0 none) p.seat.me)
+        → Allows (StoreRule key ((part_of key).roots key) (Compact key)) slots p.seat.id p.seat.me word (λ _. new) (frees_tells what (step slots word new 0 none) p.seat.me)
     free_allowed key slots word new what next same here goes_to keep may =
-        subst (λ (k : About). Allows (Kept k ((part_of k).roots k) (Compact k)) slots p.seat.id p.seat.me word (λ _. new) (frees_tells what (step slots word new 0 none) p.seat.me)) (sym same)
+        subst (λ (k : About). Allows (StoreRule k ((part_of k).roots k) (Compact k)) slots p.seat.id p.seat.me word (λ _. new) (frees_tells what (step slots word new 0 none) p.seat.me)) (sym same)
         (frees _ store.about slots p.seat.id p.seat.me h word new what next w.rest.seat.live w.rest.seat.about_is w.held here goes_to keep may)
 
     pub few_names : p.names_count ≤ 4611686018427387904
@@ -115,25 +115,25 @@ module _ (width flags : ℕ) (store : Store) where
 
     -- a reader's steps are allowed to it
     pub peek_allowed : (key : About) (slots g word x : ℕ) → key ≡ store.about → first_root store.about + g ≡ word → g < regions store.about
-        → Allows (Kept key ((part_of key).roots key) (Compact key)) slots p.seat.id p.seat.me word (λ n. n) (peeks_tells x (step slots word 0 0 none) p.seat.me)
+        → Allows (StoreRule key ((part_of key).roots key) (Compact key)) slots p.seat.id p.seat.me word (λ n. n) (peeks_tells x (step slots word 0 0 none) p.seat.me)
     peek_allowed key slots g word x same here inside =
-        subst (λ (k : About). Allows (Kept k ((part_of k).roots k) (Compact k)) slots p.seat.id p.seat.me word (λ n. n) (peeks_tells x (step slots word 0 0 none) p.seat.me)) (sym same)
+        subst (λ (k : About). Allows (StoreRule k ((part_of k).roots k) (Compact k)) slots p.seat.id p.seat.me word (λ n. n) (peeks_tells x (step slots word 0 0 none) p.seat.me)) (sym same)
         (peeks _ store.about slots p.seat.id p.seat.me g word x r.seat.about_is here inside)
 
     module _ (q : Reading) (reader : (view p).root.reader ≡ q ∷ []) where
       pub read_allowed : (key : About) (slots from i word : ℕ) → key ≡ store.about → from ≡ first_root store.about + start store.about q.region → from + i ≡ word → i < words_each store.about
-          → Allows (Kept key ((part_of key).roots key) (Compact key)) slots p.seat.id p.seat.me word (λ n. n) (reads_tells (step slots word 0 0 none) p.seat.me)
+          → Allows (StoreRule key ((part_of key).roots key) (Compact key)) slots p.seat.id p.seat.me word (λ n. n) (reads_tells (step slots word 0 0 none) p.seat.me)
       read_allowed key slots from i word same begins here near =
-          subst (λ (k : About). Allows (Kept k ((part_of k).roots k) (Compact k)) slots p.seat.id p.seat.me word (λ n. n) (reads_tells (step slots word 0 0 none) p.seat.me)) (sym same)
+          subst (λ (k : About). Allows (StoreRule k ((part_of k).roots k) (Compact k)) slots p.seat.id p.seat.me word (λ n. n) (reads_tells (step slots word 0 0 none) p.seat.me)) (sym same)
           (reads _ store.about slots p.seat.id p.seat.me q i word r.seat.about_is reader (omega (arith, begins, here)) near)
 
       pub read_place : (from i word : ℕ) → from ≡ first_root store.about + start store.about q.region → from + i ≡ word → place_in (view p).about word q.region ≡ i
       read_place from i word begins here = subst (λ (y : About). place_in y word q.region ≡ i) (sym r.seat.about_is) (omega (arith, begins, here))
 
       pub close_allowed : (key : About) (slots word : ℕ) → key ≡ store.about → first_root store.about + q.region ≡ word
-          → Allows (Kept key ((part_of key).roots key) (Compact key)) slots p.seat.id p.seat.me word (λ n. n) (closes_tells (step slots word 0 0 none) p.seat.me)
+          → Allows (StoreRule key ((part_of key).roots key) (Compact key)) slots p.seat.id p.seat.me word (λ n. n) (closes_tells (step slots word 0 0 none) p.seat.me)
       close_allowed key slots word same here =
-          subst (λ (k : About). Allows (Kept k ((part_of k).roots k) (Compact k)) slots p.seat.id p.seat.me word (λ n. n) (closes_tells (step slots word 0 0 none) p.seat.me)) (sym same)
+          subst (λ (k : About). Allows (StoreRule k ((part_of k).roots k) (Compact k)) slots p.seat.id p.seat.me word (λ n. n) (closes_tells (step slots word 0 0 none) p.seat.me)) (sym same)
           (closes _ store.about slots p.seat.id p.seat.me q word r.seat.live r.seat.about_is reader here)
 
       -- a believed second look told this, and gave no name

@@ -10,7 +10,7 @@ use Rattle.pair_rule.specs.declared.pass.PassOf.{PassOf}
 use Rattle.pair_rule.specs.Part.{Store}
 use Rattle.pair_rule.specs.Plays.{Caught, first_root}
 use Rattle.pair_rule.specs.Rest.{Sound, SeatRests, AtRest, view}
-use Rattle.pair_rule.specs.Rule.{Kept}
+use Rattle.pair_rule.specs.Rule.{StoreRule}
 use Rattle.pair_rule.proofs.Catches.{rests_caught}
 use Rattle.pair_rule.proofs.Histories.{extends_refl}
 use Rattle.region_root.specs.declared.root.Regions.{Regions}
@@ -89,9 +89,9 @@ module _ (width flags : ℕ) where
 
     -- taking a region is allowed to a pass at rest
     pub take_allowed : (key : About) (p : PassOf Regions) (slots g word old new : ℕ) → AtRest (compact width flags) store p → key ≡ store.about → first_root store.about + g ≡ word → g < regions store.about → new ≡ suc old → IsEven old
-        → Allows (Kept key ((part_of key).roots key) (Compact key)) slots p.seat.id p.seat.me word (λ n. either (eqb n old) new n) (takes_tells (step slots word old new none) p.seat.me)
+        → Allows (StoreRule key ((part_of key).roots key) (Compact key)) slots p.seat.id p.seat.me word (λ n. either (eqb n old) new n) (takes_tells (step slots word old new none) p.seat.me)
     take_allowed key p slots g word old new r same here inside up even =
-        subst (λ (k : About). Allows (Kept k ((part_of k).roots k) (Compact k)) slots p.seat.id p.seat.me word (λ n. either (eqb n old) new n) (takes_tells (step slots word old new none) p.seat.me)) (sym same)
+        subst (λ (k : About). Allows (StoreRule k ((part_of k).roots k) (Compact k)) slots p.seat.id p.seat.me word (λ n. either (eqb n old) new n) (takes_tells (step slots word old new none) p.seat.me)) (sym same)
         (takes _ store.about slots p.seat.id p.seat.me g word old new r.seat.about_is (r.seat.sound.root_sound.idle r.seat.idle) here inside up even)
 
     -- and then it holds the region
@@ -130,15 +130,15 @@ module _ (width flags : ℕ) where
 
       -- its loads and stores
       pub load_allowed : (key : About) (slots from i word : ℕ) → key ≡ store.about → from ≡ first_root store.about + start store.about h.region → from + i ≡ word → i < words_each store.about
-          → Allows (Kept key ((part_of key).roots key) (Compact key)) slots p.seat.id p.seat.me word (λ n. n) (copies_tells (step slots word 0 0 none) p.seat.me)
+          → Allows (StoreRule key ((part_of key).roots key) (Compact key)) slots p.seat.id p.seat.me word (λ n. n) (copies_tells (step slots word 0 0 none) p.seat.me)
       load_allowed key slots from i word same begins here near =
-          subst (λ (k : About). Allows (Kept k ((part_of k).roots k) (Compact k)) slots p.seat.id p.seat.me word (λ n. n) (copies_tells (step slots word 0 0 none) p.seat.me)) (sym same)
+          subst (λ (k : About). Allows (StoreRule k ((part_of k).roots k) (Compact k)) slots p.seat.id p.seat.me word (λ n. n) (copies_tells (step slots word 0 0 none) p.seat.me)) (sym same)
           (copies _ store.about slots p.seat.id p.seat.me h i word about_is w.held (omega (arith, begins, here)) near)
 
       pub store_allowed : (key : About) (slots from i word new : ℕ) → key ≡ store.about → from ≡ first_root store.about + start store.about h.region → from + i ≡ word → i < words_each store.about
-          → Allows (Kept key ((part_of key).roots key) (Compact key)) slots p.seat.id p.seat.me word (λ _. new) (λ _. stores_tells (step slots word new 0 none) p.seat.me new)
+          → Allows (StoreRule key ((part_of key).roots key) (Compact key)) slots p.seat.id p.seat.me word (λ _. new) (λ _. stores_tells (step slots word new 0 none) p.seat.me new)
       store_allowed key slots from i word new same begins here near =
-          subst (λ (k : About). Allows (Kept k ((part_of k).roots k) (Compact k)) slots p.seat.id p.seat.me word (λ _. new) (λ _. stores_tells (step slots word new 0 none) p.seat.me new)) (sym same)
+          subst (λ (k : About). Allows (StoreRule k ((part_of k).roots k) (Compact k)) slots p.seat.id p.seat.me word (λ _. new) (λ _. stores_tells (step slots word new 0 none) p.seat.me new)) (sym same)
           (stores _ store.about slots p.seat.id p.seat.me h i word new about_is w.held w.busy (omega (arith, begins, here)) near)
 
       pub place_here : (from i word : ℕ) → from ≡ first_root store.about + start store.about h.region → from + i ≡ word → place_in (view p).about word h.region ≡ i

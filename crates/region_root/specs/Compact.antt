@@ -1,6 +1,7 @@
 -- The rule of a compact root table: a free region's words keep the map of its names; a held one's are the
 -- holder's copy; and a reader may believe what it loaded, where the lock word is still what it was.
-use Rattle.std.specs.Prelude.{◌≡◌, ℕ, suc, ◌*◌, ◌<◌, ◌≤◌, List, [], map, length, false, slice_index, Some}
+use Rattle.cleary_core.specs.Cells.{width as cell_bits}
+use Rattle.std.specs.Prelude.{◌≡◌, ℕ, suc, ◌+◌, ◌*◌, ◌/◌, ◌<◌, ◌≤◌, List, [], map, length, false, slice_index, Some}
 use mathlib.Core.Option.{some}
 use lib.ListN.{get_elem?}
 use Rattle.tree_shape.specs.Tree.{Has}
@@ -12,7 +13,7 @@ use Rattle.pair_rule.specs.Part.{Part}
 use Rattle.region_root.specs.declared.root.Regions.{Regions}
 use Rattle.region_root.specs.declared.root.Holding.{Holding}
 use Rattle.region_root.specs.declared.root.Reading.{Reading}
-use Rattle.region_root.specs.Layout.{IsSized, count, regions, most, lock_of, part, IsPacked, KeepsRoots}
+use Rattle.region_root.specs.Layout.{IsSized, IsOut, cells_of, count, regions, most, lock_of, part, IsPacked, KeepsRoots}
 use Rattle.region_root.specs.Maps.{roots_of, IsMapOf, FewEach, IsFull}
 
 -- A lock word is even where its region is free, and odd where it is held.
@@ -102,9 +103,11 @@ abbrev pub compact : ℕ → ℕ → Part Regions
 compact width flags = record {
   sized = IsSized width flags;
   count = count width flags;
+  is_out = IsOut width;
   roots = λ about h t. roots_of h;
   house = Housed;
   is_full = IsFull;
+  bytes = λ about names. (names * cell_bits (cells_of about) + 7) / 8;
   sound = KnowsRegions;
   split = λ t. nothing;
   join = λ t u. t;

@@ -1,5 +1,5 @@
 -- Where the words of a compact root table lie, and to which region and cell a root is split.
-use Rattle.std.specs.Prelude.{ℕ, ◌+◌, ◌*◌, ◌-◌, ◌^◌, ◌<◌, ◌≤◌, List, [], ◌∷◌, take, drop, slice_index}
+use Rattle.std.specs.Prelude.{◌≡◌, ◌⊎◌, ℕ, ◌+◌, ◌*◌, ◌-◌, ◌^◌, ◌<◌, ◌≤◌, List, [], ◌∷◌, take, drop, slice_index}
 use Rattle.packed_word.specs.Word.{IsLayout}
 use Rattle.mix_hash.specs.declared.Place.{Place}
 use Rattle.mix_hash.specs.Hash.{mix_of}
@@ -19,6 +19,18 @@ pub record IsSized (width flags : ℕ) (sizes : Sizes) : Type 0 where
   pub inside : sizes.region ≤ sizes.roots
   pub most_roots : sizes.roots ≤ 24
   pub narrow : sizes.roots < 2 * width
+
+-- its roots' size and its region's are in their ranges: a root has more bits than its cell's number
+abbrev pub CellsFit : ℕ → Sizes → Type 0
+CellsFit width sizes = (6 ≤ sizes.roots) × (sizes.roots ≤ 24) × (sizes.roots < 2 * width)
+
+abbrev pub RegionFits : Sizes → Type 0
+RegionFits sizes = (6 ≤ sizes.region) × (sizes.region ≤ 12) × (sizes.region ≤ sizes.roots)
+
+-- this is the number of the first of them that is not
+abbrev pub IsOut : ℕ → Sizes → ℕ → Type 0
+IsOut width sizes n =
+    ((n ≡ 2) × (CellsFit width sizes → ⊥)) ⊎ ((n ≡ 3) × CellsFit width sizes × (RegionFits sizes → ⊥))
 
 -- the cells of one region
 abbrev pub region_cells : ℕ → ℕ → Sizes → CellSizes

@@ -4,7 +4,7 @@ use Rattle.std.specs.Prelude.{Result, MatchResult, MatchBool, Option, option_map
 use Rattle.tree_shape.specs.Tree.{Has, RootStands}
 use Rattle.tdb_base.specs.Fakes.{counted}
 use Rattle.tdb_base.specs.History.{Vector, Act, Put, Set, Clear, name_of}
-use Rattle.cleary_core.specs.Access.{Agrees}
+use Rattle.cleary_core.specs.Access.{HasReached}
 use Rattle.pair_nodes.specs.Roots.{RootPut}
 use Rattle.pair_rule.specs.declared.pass.PassOf.{PassOf}
 use Rattle.pair_rule.specs.Calls.{IsNoName}
@@ -46,7 +46,7 @@ LockedOnce v w = w.root ≡ record v.root { locks = suc v.root.locks }
 -- answer says whether that map has the root
 pub record FindsRoot (about : About) (x : ℕ) (p : PassOf Regions) (answer : Bool) : Type 0 where
   pub decides : (words : List ℕ) (map : List (ℕ × ℕ)) → length words ≡ words_each about
-      → Agrees (HasLoaded p) words → KeepsRoots about words map → InRegion about (region_of about x) map
+      → HasReached (HasLoaded p) words → KeepsRoots about words map → InRegion about (region_of about x) map
       → MatchBool answer ((flags : ℕ) × Has (x, flags) map) ((flags : ℕ) → Has (x, flags) map → ⊥)
 
 -- the pass read a region once without its lock, where it wanted the root x

@@ -1,7 +1,7 @@
 //! The compact root table as a part of the rule, and what a pass knows of it. No value of the first three types
 //! is made: they are what contracts see behind a seat.
 
-use crate::words::{count_regions, count_words};
+use crate::words::{count_regions, count_words, first_out};
 use pair_rule::{RootPart, Sizes};
 use std::collections::LinkedList;
 
@@ -65,6 +65,10 @@ impl<const W: u32, const F: u32> RootPart<W, F> for CompactRoot<W, F> {
     ghost first = { λ about. nothing };
 
     ghost spent = { nothing };
+
+    fn first_out(sizes: &Sizes) -> Option<u32> {
+        first_out::<W>(sizes)
+    }
 
     fn words(sizes: &Sizes) -> usize {
         let regions = count_regions(sizes);

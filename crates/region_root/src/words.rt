@@ -1,5 +1,6 @@
 //! Where the words of a compact root table lie.
-ghost use Rattle.std.specs.Prelude.{◌≡◌, ◌+◌, ◌^◌, ◌<◌, ◌≤◌};
+ghost use Rattle.std.specs.Prelude.{◌≡◌, ℕ, ◌+◌, ◌*◌, ◌^◌, ◌<◌, ◌≤◌, ◌↔◌, IsTrue, Some, None};
+ghost use Rattle.region_root.specs.Layout.{CellsFit, RegionFits, IsOut};
 ghost use Rattle.packed_word.specs.Word.{pair_of};
 ghost use Rattle.pair_rule.specs.Part.{IsTable};
 ghost use Rattle.pair_rule.specs.Plays.{first_root};
@@ -15,6 +16,34 @@ use pair_rule::{PairTable, Sizes};
 
 // The present bit.
 const PRESENT: u64 = 1 << 63;
+
+fn cells_fit<const W: u32>(sizes: &Sizes) -> bool
+    requires { W ≤ 31 }
+    ensures { IsTrue result ↔ CellsFit W sizes.now }
+{
+    6 <= sizes.roots && sizes.roots <= 24 && sizes.roots < 2 * W
+}
+
+fn region_fits(sizes: &Sizes) -> bool
+    ensures { IsTrue result ↔ RegionFits sizes.now }
+{
+    6 <= sizes.region && sizes.region <= 12 && sizes.region <= sizes.roots
+}
+
+// The number of the first of the table's sizes that is out of its range.
+pub(crate) fn first_out<const W: u32>(sizes: &Sizes) -> Option<u32>
+    requires { W ≤ 31 }
+    ensures out { (n : ℕ) → (result ≡ Some n) ↔ IsOut W sizes.now n }
+    ensures fit { (result ≡ None) ↔ CellsFit W sizes.now × RegionFits sizes.now }
+{
+    if !cells_fit::<W>(sizes) {
+        return Some(2);
+    }
+    if !region_fits(sizes) {
+        return Some(3);
+    }
+    None
+}
 
 // How many regions there are.
 #[inline]
