@@ -12,3 +12,4 @@ pub mod Keys
 pub mod Outcomes
 pub mod Peeking
 pub mod Writing
+pub mod ThreeSlots

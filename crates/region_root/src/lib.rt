@@ -18,3 +18,6 @@ pub use flag::{clear_flag, flags, set_flag};
 pub use peek::{Peek, peek_root};
 pub use put::put_root;
 pub use root::{CompactRoot, Holding, Reading, Regions};
+
+#[cfg(test)]
+mod tests;
