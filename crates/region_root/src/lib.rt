@@ -20,4 +20,6 @@ pub use put::put_root;
 pub use root::{CompactRoot, Holding, Reading, Regions};
 
 #[cfg(test)]
+mod crowd;
+#[cfg(test)]
 mod tests;

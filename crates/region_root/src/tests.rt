@@ -148,7 +148,14 @@ fn fills_up(rt: HostRuntime) -> Result<(), Fail> {
 }
 
 // Sets a flag, or clears it.
-fn turn<H: Wait>(rt: &H, store: &Store, pass: &mut StorePass, id: u64, b: u32, set: bool) -> bool
+pub(crate) fn turn<H: Wait>(
+    rt: &H,
+    store: &Store,
+    pass: &mut StorePass,
+    id: u64,
+    b: u32,
+    set: bool,
+) -> bool
     requires flags { (store.now.about.flags ≡ 8) × (b < 8) }
     requires rest { AtRest (compact 16 8) store.now pass.old }
     requires named { (vector : Vector) × (name_of (view pass.old).seen vector ≡ Some id) }

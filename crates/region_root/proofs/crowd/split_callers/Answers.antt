@@ -1,0 +1,18 @@
+use Rattle.std.proofs.Common.{subst, sym}
+use Rattle.std.specs.Prelude.{All}
+use Rattle.std.proofs.lemmas.List.Elements.{All-push}
+use Rattle.region_root.specs.declared.crowd.Caller.{Caller}
+use Rattle.pair_rule.specs.Part.{Store}
+use Rattle.pair_rule.specs.Rest.{AtRest}
+use Rattle.region_root.specs.Compact.{compact}
+use Rattle.region_root.proofs.crowd.split_callers.Goals as goal
+
+pub loop-number-preserved : goal.loop-number-preserved
+loop-number-preserved c =
+    let on = c.table-table.ensures.table in
+    let split = subst (λ (s : Store). AtRest (compact 16 8) s c.split.new.pass) on c.in_ok-pass.ensures.split.rest in
+    let child = subst (λ (s : Store). AtRest (compact 16 8) s c.in_ok-pass.pass) on c.in_ok-pass.ensures.split.child_rest in
+    record {
+      rest = split;
+      callers = subst (λ l. All (λ (x : Caller). AtRest (compact 16 8) c.args.store.now x.pass) l) (sym c.in_ok-push.ensures.items) (All-push (λ (x : Caller). AtRest (compact 16 8) c.args.store.now x.pass) c.loop-number.callers.items _ c.loop-number.invariant.callers child);
+    }
