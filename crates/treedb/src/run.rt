@@ -1,5 +1,5 @@
 //! What the program does: the words choose, the job is done, and a note tells of the end.
-ghost use Rattle.std.specs.Prelude.{◌≡◌, Some, None, IfOk, IfErr, false, map, string_bytes, true};
+ghost use Rattle.std.specs.Prelude.{◌≡◌, Some, IfOk, IfErr, false, map, string_bytes, true};
 ghost use Rattle.tdb_base.specs.Causes.{Rose};
 ghost use Rattle.command_line.specs.Valid.{IsValid};
 ghost use Rattle.treedb.specs.Note.{has_note, status_of};
