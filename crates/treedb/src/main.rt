@@ -5,15 +5,11 @@
 mod bench;
 mod check;
 mod distinct;
-#[cfg(test)]
-mod distinct_tests;
 mod ended;
 mod input;
 mod insert;
 mod job;
 mod line_text;
-#[cfg(test)]
-mod note_tests;
 mod notes;
 mod output;
 mod pairs;

@@ -3,7 +3,9 @@
 ghost use Rattle.std.specs.Prelude.{◌<◌};
 
 mod checks;
+mod distinct;
 mod faults;
+mod notes;
 mod schedules;
 
 use crate::run::{run, run_plain};
