@@ -1,5 +1,5 @@
 -- In a store of three slots, a node of two zeros and a slot are a root.
-use Rattle.std.proofs.Common.{◌≡◌, ℕ, ◌^◌, ◌<◌, ◌*◌, ◌+◌, ◌/◌, ◌%◌, List, [], ◌∷◌, Some, refl, sym, subst, arith}
+use Rattle.std.proofs.Common.{◌≡◌, ℕ, ◌^◌, ◌<◌, ◌*◌, ◌+◌, ◌/◌, ◌%◌, List, [], ◌∷◌, Some, sym, subst, arith}
 use Rattle.std.proofs.lemmas.Nat.{shr_high, mod_low, pow_pos}
 use Rattle.tree_shape.specs.Tree.{Has, RootStands, Stands, left_part, right_part, slot, node}
 use Rattle.packed_word.specs.Word.{pair_of}

@@ -83,7 +83,12 @@ abbrev pub region_of : About → ℕ → ℕ
 region_of about x = (place about x).region
 
 abbrev pub key_of : About → ℕ → ℕ → Key
-key_of about x flags = record { home = (place about x).home; quotient = (place about x).quotient; flags = flags }
+key_of about x flags = record {
+  home = (place about x).home;
+  quotient = (place about x).quotient;
+  flags =
+      flags;
+}
 
 -- A map from roots to flags is a list of both, read by what it has. As a region's cells keep it:
 abbrev pub keys_of : About → List (ℕ × ℕ) → List Key

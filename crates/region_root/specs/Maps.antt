@@ -2,7 +2,8 @@
 use Rattle.std.specs.Prelude.{◌≡◌, ◌==◌, ℕ, ◌<◌, ◌≤◌, List, [], ◌∷◌, length, true, false, not, Some}
 use Rattle.std.specs.Prelude.{fold, if◌then◌else◌}
 use Rattle.tree_shape.specs.Tree.{Has}
-use Rattle.tdb_base.specs.History.{Vector, Act, Put, Set, Clear, Look, Entry, History, is_fresh, name_of, flags_of}
+use Rattle.tdb_base.specs.History.{Vector, Act, Put, Set, Clear, Look, Entry, History, is_fresh, name_of}
+use Rattle.tdb_base.specs.History.{flags_of}
 use Rattle.tdb_base.specs.History.{has_bit, with_bit, without_bit}
 use Rattle.pair_rule.specs.declared.sizes.About.{About}
 use Rattle.pair_rule.specs.Numbers.{NoRepeats}

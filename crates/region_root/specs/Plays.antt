@@ -1,5 +1,6 @@
 -- What the steps on lock words and on regions' words tell.
-use Rattle.std.specs.Prelude.{◌≡◌, ◌≢◌, ℕ, suc, ◌+◌, ◌-◌, ◌<◌, ◌⊎◌, List, [], ◌∷◌, length, true, false, Option}
+use Rattle.std.specs.Prelude.{◌≡◌, ◌≢◌, ℕ, suc, ◌+◌, ◌-◌, ◌<◌, ◌⊎◌, List, [], ◌∷◌, length, true, false}
+use Rattle.std.specs.Prelude.{Option}
 use Rattle.std.specs.Prelude.{Some, None, slice_index, slice_set}
 use Rattle.atomic_table.specs.Table.{Me, Step}
 use Rattle.tree_shape.specs.Tree.{Has, RootStands}
@@ -31,7 +32,8 @@ deed caller act vector id = record { caller = caller; act = act; vector = vector
 -- these are the calls of an ending
 abbrev pub Ends : ℕ → About → List (ℕ × ℕ) → Ending → History → Type 0
 Ends caller about known None more = more ≡ []
-Ends caller about known (Some a) more = (vector : Vector) × RootStands about.width about.slots known a.0 vector
+Ends caller about known (Some a) more = (vector : Vector)
+    × RootStands about.width about.slots known a.0 vector
     × (length vector ≡ about.slots) × (more ≡ deed caller a.1 vector a.0 ∷ [])
 
 -- a call may end so where the region g has this map, and then it has that one
@@ -90,7 +92,8 @@ pub record Taken (g lock : ℕ) (v w : View Regions) : Type 0 where
       → (flags : ℕ) × Has (id, flags) base
 
 -- What a reader learns whose second look found the first value again: there are words of the region that have
--- its loads at their places, and they keep the map of the region's names. Where the wanted root is among them,
+-- its loads at their places, and they keep the map of the region's names. Where the wanted root is among
+-- them,
 -- one call found it.
 pub record Believes (q : Reading) (v w : View Regions) : Type 0 where
   pub words : List ℕ

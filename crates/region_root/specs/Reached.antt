@@ -7,7 +7,8 @@ use Rattle.pair_rule.specs.Rest.{view}
 use Rattle.region_root.specs.declared.root.Regions.{Regions}
 use Rattle.region_root.specs.declared.root.Holding.{Holding}
 use Rattle.region_root.specs.Plays.{recopied, reloaded}
-use Rattle.region_root.specs.Work.{AtWork, HasLoaded, CanRead, ReadsOn, CanWrite, Rewrites, held_words, copy_in}
+use Rattle.region_root.specs.Work.{AtWork, HasLoaded, CanRead, ReadsOn, CanWrite, Rewrites, held_words}
+use Rattle.region_root.specs.Work.{copy_in}
 
 abbrev P : Type 0
 P = PassOf Regions
@@ -55,7 +56,10 @@ module _ (width flags : ℕ) where
           c.reader.3,
         );
       } in
-      subst (λ (z : Store × ℕ). CanRead width flags z.0 z.1 new.2 count) (λ i. (sym stores i, sym begins i)) here
+      subst (λ (z : Store × ℕ). CanRead width flags z.0 z.1 new.2 count) (λ i. (
+        sym stores i,
+        sym begins i,
+      )) here
 
   pub loaded_keep : (store : Store) (p q : P) → ReadsOn width flags store p q → (i m : ℕ) → HasLoaded p i m
       → HasLoaded q i m
@@ -101,11 +105,13 @@ module _ (width flags : ℕ) where
   words_long store from p count c = ap length (held_is p c.hold c.work.held) ∙ (c.work.long ∙ sym c.all)
 
   pub rewrites_same : (store : Store) (p q : P) → q ≡ p → Rewrites width flags store p q
-  rewrites_same store p q same = subst (λ (z : P). Rewrites width flags store p z) (sym same) (rewrites_stay store p)
+  rewrites_same store p q same = subst (λ (z : P). Rewrites width flags store p z) (sym same) (rewrites_stay
+      store p)
 
   pub same_span : (old new : Store × ℕ × P) → new.0 ≡ old.0 → new.1 ≡ old.1 → new.2 ≡ old.2 → (count : ℕ)
       → CanWrite width flags old.0 old.1 old.2 count → CanWrite width flags new.0 new.1 new.2 count
-  same_span old new stores begins same = writes_keep old new stores begins (rewrites_same old.0 old.2 new.2 same)
+  same_span old new stores begins same = writes_keep old new stores begins (rewrites_same old.0 old.2 new.2
+      same)
 
 pub same_words : (p q : P) → q ≡ p → (i m : ℕ) → slice_index (held_words p) i ≡ m
     → slice_index (held_words q) i ≡ m

@@ -57,7 +57,8 @@ pub record Peeked (about : About) (x : ℕ) (v w : View Regions) : Type 0 where
   pub region_is : reader.region ≡ region_of about x
 
 module _ (width flags : ℕ) (store : Store) (x : ℕ) (old new : PassOf Regions) where
-  -- at one moment the region's words had no such root: its vector has no name that the pass has then seen. The
+  -- at one moment the region's words had no such root: its vector has no name that the pass has then seen.
+  -- The
   -- lock word was even, not its last even value, and the same at both looks
   pub record RootAbsent : Type 0 where
     pub rest : AtRest (compact width flags) store new
@@ -69,7 +70,8 @@ module _ (width flags : ℕ) (store : Store) (x : ℕ) (old new : PassOf Regions
     pub looks : (q : Reading) → (view new).root.reader ≡ q ∷ [] → Unchanged q.second q
     pub buffers : new ≡ record old { seat = new.seat }
 
-  -- a holder was there, or the lock word can't be trusted: it was odd or its last even value at the first look,
+  -- a holder was there, or the lock word can't be trusted: it was odd or its last even value at the first
+  -- look,
   -- or another one at the second
   pub record RootChanged : Type 0 where
     pub rest : AtRest (compact width flags) store new
@@ -96,12 +98,13 @@ FindTold x answer h v w = MatchBool answer (Told h.region h.base (Some (x, Put f
     (((flags : ℕ) → Has (x, flags) h.base → ⊥) × Told h.region h.base None v w)
 
 -- one call of the history did so with the vector that has this identifier, under one lock
-pub record Acted (width flags : ℕ) (store : Store) (act : Act) (id : ℕ) (old new : PassOf Regions) : Type 0 where
-  pub rest : AtRest (compact width flags) store new
-  pub entry : (vector : Vector) → name_of (view old).seen vector ≡ Some id
-      → Caught (compact width flags) (deed (view old).number act vector id ∷ []) (view old) (view new)
-  pub locked : LockedOnce (view old) (view new)
-  pub buffers : new ≡ record old { seat = new.seat }
+pub record Acted (width flags : ℕ) (store : Store) (act : Act) (id : ℕ) (old new : PassOf Regions) : Type 0
+  where
+    pub rest : AtRest (compact width flags) store new
+    pub entry : (vector : Vector) → name_of (view old).seen vector ≡ Some id
+        → Caught (compact width flags) (deed (view old).number act vector id ∷ []) (view old) (view new)
+    pub locked : LockedOnce (view old) (view new)
+    pub buffers : new ≡ record old { seat = new.seat }
 
 -- a flag is set, or cleared, and this says whether it changed
 abbrev pub flag_act : Bool → ℕ → Bool → Act

@@ -66,11 +66,12 @@ abbrev pub HasLoaded : PassOf Regions → ℕ → ℕ → Type 0
 HasLoaded p place word = (r : Reading) × ((view p).root.reader ≡ r ∷ []) × Has (place, word) r.loads
 
 -- it can reach so many words, which begin at `from`
-pub record CanRead (width flags : ℕ) (store : Store) (from : ℕ) (p : PassOf Regions) (count : ℕ) : Type 0 where
-  pub all : count ≡ words_each store.about
-  pub rest : AtRest (compact width flags) store p
-  pub reader : (r : Reading) × ((view p).root.reader ≡ r ∷ []) × (r.region < regions store.about)
-      × (from ≡ first_root store.about + start store.about r.region)
+pub record CanRead (width flags : ℕ) (store : Store) (from : ℕ) (p : PassOf Regions) (count : ℕ) : Type 0
+  where
+    pub all : count ≡ words_each store.about
+    pub rest : AtRest (compact width flags) store p
+    pub reader : (r : Reading) × ((view p).root.reader ≡ r ∷ []) × (r.region < regions store.about)
+        × (from ≡ first_root store.about + start store.about r.region)
 
 pub record ReadsOn (width flags : ℕ) (store : Store) (old new : PassOf Regions) : Type 0 where
   pub rest : AtRest (compact width flags) store old → AtRest (compact width flags) store new
@@ -88,11 +89,12 @@ abbrev pub held_words : PassOf Regions → List ℕ
 held_words p = copy_in (view p).root.held
 
 -- it can reach so many words, which begin at `from`
-pub record CanWrite (width flags : ℕ) (store : Store) (from : ℕ) (p : PassOf Regions) (count : ℕ) : Type 0 where
-  pub all : count ≡ words_each store.about
-  pub hold : Holding
-  pub work : AtWork width flags store hold p
-  pub begins : from ≡ first_root store.about + start store.about hold.region
+pub record CanWrite (width flags : ℕ) (store : Store) (from : ℕ) (p : PassOf Regions) (count : ℕ) : Type 0
+  where
+    pub all : count ≡ words_each store.about
+    pub hold : Holding
+    pub work : AtWork width flags store hold p
+    pub begins : from ≡ first_root store.about + start store.about hold.region
 
 pub record Rewrites (width flags : ℕ) (store : Store) (old new : PassOf Regions) : Type 0 where
   pub work : (h : Holding) → AtWork width flags store h old

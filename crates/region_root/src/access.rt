@@ -28,8 +28,8 @@ impl<'a, 'b, const W: u32, const F: u32> ReadWords for Reader<'a, 'b, W, F> {
 
     ghost reached = { λ s i m. HasLoaded s.pass.now i m };
 
-    ghost reads = { λ s t. (t.table.now ≡ s.table.now) × (t.from ≡ s.from) × (t.pass.ghost_name ≡ s.pass.ghost_name)
-        × ReadsOn W F s.table.now s.pass.now t.pass.now };
+    ghost reads = { λ s t. (t.table.now ≡ s.table.now) × (t.from ≡ s.from)
+        × (t.pass.ghost_name ≡ s.pass.ghost_name) × ReadsOn W F s.table.now s.pass.now t.pass.now };
 
     ghost stays = { λ x. (refl, refl, refl, reads_stay W F x.table.now x.pass.now) };
 
@@ -69,8 +69,8 @@ impl<'a, 'b, const W: u32, const F: u32> ReadWords for Holder<'a, 'b, W, F> {
 
     ghost reached = { λ s i m. slice_index (held_words s.pass.now) i ≡ m };
 
-    ghost reads = { λ s t. (t.table.now ≡ s.table.now) × (t.from ≡ s.from) × (t.pass.ghost_name ≡ s.pass.ghost_name)
-        × (t.pass.now ≡ s.pass.now) };
+    ghost reads = { λ s t. (t.table.now ≡ s.table.now) × (t.from ≡ s.from)
+        × (t.pass.ghost_name ≡ s.pass.ghost_name) × (t.pass.now ≡ s.pass.now) };
 
     ghost stays = { λ x. (refl, refl, refl, refl) };
 
@@ -94,12 +94,15 @@ impl<'a, 'b, const W: u32, const F: u32> WriteWords for Holder<'a, 'b, W, F> {
 
     ghost words = { λ s. held_words s.pass.now };
 
-    ghost writes = { λ s t. (t.table.now ≡ s.table.now) × (t.from ≡ s.from) × (t.pass.ghost_name ≡ s.pass.ghost_name)
-        × Rewrites W F s.table.now s.pass.now t.pass.now };
+    ghost writes = { λ s t. (t.table.now ≡ s.table.now) × (t.from ≡ s.from)
+        × (t.pass.ghost_name ≡ s.pass.ghost_name) × Rewrites W F s.table.now s.pass.now t.pass.now };
 
     ghost stands = { λ x count c. (words_long W F x.table.now x.from x.pass.now count c, λ i m h. h) };
 
-    ghost same = { λ x y r. (ap held_words r.3, (r.0, r.1, r.2, rewrites_same W F x.table.now x.pass.now y.pass.now r.3)) };
+    ghost same = { λ x y r. (
+      ap held_words r.3,
+      (r.0, r.1, r.2, rewrites_same W F x.table.now x.pass.now y.pass.now r.3),
+    ) };
 
     ghost links = { λ x y z p q. (
       q.0 ∙ p.0,

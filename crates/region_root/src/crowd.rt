@@ -25,7 +25,8 @@ struct Caller {
     missed: bool,
 }
 
-// Puts one root, looks for it, and sets its flag: the answer, whether it was first, and whether it was missed.
+// Puts one root, sets its flag and looks for it: the answer, whether the flag was first set, and whether the
+// root was missed.
 fn put_one<H: Wait>(
     rt: &H,
     store: &Store,
@@ -118,8 +119,8 @@ fn split_callers(
     Ok(callers)
 }
 
-// How many callers gave a root its name, and how many were the first to set its flag, if all were answered its
-// identifier and none missed a root.
+// How many callers gave a root its name, and how many were the first to set its flag, if all were answered
+// its identifier and none missed a root.
 fn named_by(callers: &[Caller], slot: usize) -> Option<(u64, u64)>
     requires { slot < 12 }
 {

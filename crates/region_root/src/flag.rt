@@ -185,8 +185,8 @@ fn look_flags<H: Wait, const W: u32, const F: u32>(
     look_locked(table, pass, lock, id, &at)
 }
 
-/// Sets flag `b` of the vector with this identifier, which is one that the pass has seen named: whether it was
-/// clear. It is one call of the history, waits for the lock of the root's region, and takes no memory.
+/// Sets flag `b` of the vector with this identifier, which is one that the pass has seen named: whether it
+/// was clear. It is one call of the history, waits for the lock of the root's region, and takes no memory.
 pub fn set_flag<H: Wait, const W: u32, const F: u32>(
     rt: &H,
     nodes: &Nodes<CompactRoot<W, F>, W, F>,
@@ -219,8 +219,8 @@ pub fn clear_flag<H: Wait, const W: u32, const F: u32>(
     change_flag(rt, nodes.table(), pass, id, b, false)
 }
 
-/// The flags of the vector with this identifier, which is one that the pass has seen named, as one number. It is
-/// one call of the history, waits for the lock of the root's region, and takes no memory.
+/// The flags of the vector with this identifier, which is one that the pass has seen named, as one number. It
+/// is one call of the history, waits for the lock of the root's region, and takes no memory.
 pub fn flags<H: Wait, const W: u32, const F: u32>(
     rt: &H,
     nodes: &Nodes<CompactRoot<W, F>, W, F>,

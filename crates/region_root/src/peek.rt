@@ -96,8 +96,8 @@ fn peek_pair<const W: u32, const F: u32>(
 ///
 /// `Seen` is one call of the history, which found the vector's name; it ticks once. `Absent` and `Changed`
 /// make no call and tick nothing. `Absent`: at one moment the root was not there, and its vector has no name
-/// that the pass has then seen. `Changed`: the region was held, or its lock word was another at the second look,
-/// or is at its last even value.
+/// that the pass has then seen. `Changed`: the region was held, or its lock word was another at the second
+/// look, or is at its last even value.
 pub fn peek_root<L: Ledger, const W: u32, const F: u32>(
     nodes: &Nodes<CompactRoot<W, F>, W, F>,
     pass: &mut Pass<CompactRoot<W, F>, W, F>,
@@ -110,7 +110,8 @@ pub fn peek_root<L: Ledger, const W: u32, const F: u32>(
     requires right { right < 2 ^ nodes.now.about.width }
     requires stands { IsSomeRoot nodes.now.about (view pass.old).known
         (pair_of nodes.now.about.width left right) }
-    ensures told { PeekTold W F nodes.now (pair_of nodes.now.about.width left right) pass.old pass.new result }
+    ensures told { PeekTold W F nodes.now (pair_of nodes.now.about.width left right)
+        pass.old pass.new result }
     ensures peeked { Peeked nodes.now.about (pair_of nodes.now.about.width left right)
         (view pass.old) (view pass.new) }
     ensures tick { L.count steps.new ≡ ticked result (L.count steps.old) }

@@ -1,5 +1,5 @@
-//! The compact root table as a part of the rule, and what a pass knows of it. No value of the first three types
-//! is made: they are what contracts see behind a seat.
+//! The compact root table as a part of the rule, and what a pass knows of it. No value of the first three
+//! types is made: they are what contracts see behind a seat.
 
 use crate::words::{count_regions, count_words, first_out};
 use pair_rule::{RootPart, Sizes};
@@ -40,8 +40,9 @@ pub struct Regions {
     pub locks: u64,
 }
 
-/// The table of roots of compact mode: `2^roots` cells in regions of `2^region`, with `region` from 6 to 12 and
-/// `roots` from there to 24, below twice `W`. A root is the quotient in a cell, and its identifier is the root itself.
+/// The table of roots of compact mode: `2^roots` cells in regions of `2^region`, with `region` from 6 to 12
+/// and `roots` from there to 24, below twice `W`. A root is the quotient in a cell, and its identifier is the
+/// root itself, as one number.
 ///
 /// Its words are a lock word for each region, and then the regions' words: `2^(region - 6) * C` each, where a
 /// cell has `C = 2W - roots + 3 + F` bits.
@@ -51,9 +52,10 @@ impl<const W: u32, const F: u32> RootPart<W, F> for CompactRoot<W, F> {
     ghost use Rattle.std.specs.Prelude.{◌≡◌, refl};
     ghost use Rattle.pair_rule.specs.Laws.{IsAbout};
     ghost use Rattle.region_root.specs.Compact.{nothing, compact, Compact};
-    ghost use Rattle.region_root.specs.Laws.{compact_keeps, compact_keeps_split, compact_keeps_join, compact_sounds};
-    ghost use Rattle.region_root.specs.Laws.{compact_houses, knows_parent, knows_child, ids_below, roots_longer};
-    ghost use Rattle.region_root.specs.Laws.{roots_of_one, compact_starts_of};
+    ghost use Rattle.region_root.specs.Laws.{compact_keeps, compact_keeps_split, compact_keeps_join};
+    ghost use Rattle.region_root.specs.Laws.{compact_sounds, compact_houses, compact_starts_of};
+    ghost use Rattle.region_root.specs.Laws.{knows_parent, knows_child, ids_below, roots_longer};
+    ghost use Rattle.region_root.specs.Laws.{roots_of_one};
     ghost use Rattle.region_root.specs.Names.{roots_nil};
 
     type View = Regions;
@@ -82,7 +84,8 @@ impl<const W: u32, const F: u32> RootPart<W, F> for CompactRoot<W, F> {
     ghost keeps_join = { λ about log ws views nodes id other v w kept at there apart busy rest fits fits_too.
         compact_keeps_join about log ws views id other v w kept at there apart rest };
 
-    ghost starts = { λ about ws width flags is long blank. compact_starts_of W F about ws width flags is long blank };
+    ghost starts = { λ about ws width flags is long blank.
+        compact_starts_of W F about ws width flags is long blank };
 
     ghost sounds = { λ about log ws nodes views id v kept legal at fits live.
         compact_sounds about log ws nodes views id v kept legal at fits };

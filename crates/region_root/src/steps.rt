@@ -1,5 +1,6 @@
 //! The atomic steps on a region, one function each.
-ghost use Rattle.std.specs.Prelude.{◌≡◌, ℕ, suc, ◌+◌, ◌<◌, ◌≤◌, List, [], ◌∷◌, true, false, slice_index, slice_set};
+ghost use Rattle.std.specs.Prelude.{◌≡◌, ℕ, suc, ◌+◌, ◌<◌, ◌≤◌, List, [], ◌∷◌, true, false};
+ghost use Rattle.std.specs.Prelude.{slice_index, slice_set};
 ghost use mathlib.Core.Option.{none};
 ghost use Rattle.atomic_table.specs.Table.{Allows, step};
 ghost use Rattle.pair_rule.specs.Calls.{KeepsBuffers};
@@ -115,7 +116,8 @@ fn swap_ending<B: Intends, P: TableRule<(), View<Regions>, Opening<View<Regions>
     requires ending { ending_of ending.now ≡ B.ending }
     requires seat { (seat.old.table_id ≡ shared.now.table_id) × (word < shared.now.table_id.words) }
     requires rule { Allows (P.holds shared.now.key) shared.now.table_id.slots seat.old.id seat.old.me word
-        (λ n. new) (frees_tells (ending_of ending.now) (step shared.now.table_id.slots word new 0 none) seat.old.me) }
+        (λ n. new) (frees_tells (ending_of ending.now)
+        (step shared.now.table_id.slots word new 0 none) seat.old.me) }
     ensures seat { seat.new.table_id ≡ seat.old.table_id }
     ensures told { frees_tells (ending_of ending.now)
         (step shared.now.table_id.slots word new 0 none) seat.old.me result seat.new.me }
