@@ -20,6 +20,4 @@ pub use put::put_root;
 pub use root::{CompactRoot, Holding, Reading, Regions};
 
 #[cfg(test)]
-mod crowd;
-#[cfg(test)]
 mod tests;

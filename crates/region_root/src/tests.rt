@@ -8,6 +8,8 @@ ghost use Rattle.packed_word.specs.Word.{pair_of};
 ghost use Rattle.pair_rule.specs.Rest.{AtRest, view};
 ghost use Rattle.region_root.specs.Compact.{compact};
 
+mod crowd;
+
 use crate::steps::next_even;
 use crate::{
     CompactRoot, Peek, clear_flag, find_id, flags, peek_root, put_root, root_pair, set_flag,

@@ -1,7 +1,7 @@
 use Rattle.std.specs.Prelude.{All}
 use Rattle.pair_rule.specs.Rest.{AtRest}
 use Rattle.region_root.specs.Compact.{compact}
-use Rattle.region_root.proofs.crowd.split_callers.Given as goal
+use Rattle.region_root.proofs.tests.crowd.split_callers.Given as goal
 
 abbrev pub invariant-loop-number : goal.invariant-loop-number
 invariant-loop-number l = record {

@@ -1,11 +1,11 @@
 use Rattle.std.proofs.Common.{subst, sym}
 use Rattle.std.specs.Prelude.{All}
 use Rattle.std.proofs.lemmas.List.Elements.{All-push}
-use Rattle.region_root.specs.declared.crowd.Caller.{Caller}
+use Rattle.region_root.specs.declared.tests.crowd.Caller.{Caller}
 use Rattle.pair_rule.specs.Part.{Store}
 use Rattle.pair_rule.specs.Rest.{AtRest}
 use Rattle.region_root.specs.Compact.{compact}
-use Rattle.region_root.proofs.crowd.split_callers.Goals as goal
+use Rattle.region_root.proofs.tests.crowd.split_callers.Goals as goal
 
 pub loop-number-preserved : goal.loop-number-preserved
 loop-number-preserved c =

@@ -3,7 +3,7 @@ ghost use Rattle.std.specs.Prelude.{◌≡◌, ◌<◌, ◌≤◌, All, IfOk};
 ghost use Rattle.pair_rule.specs.Rest.{AtRest};
 ghost use Rattle.region_root.specs.Compact.{compact};
 
-use crate::tests::{Store, StorePass, peek, put, store, turn};
+use super::{Store, StorePass, peek, put, store, turn};
 use crate::{Peek, Regions};
 use pair_rule::PassOf;
 use std::alloc::Global;
