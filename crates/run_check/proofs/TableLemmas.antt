@@ -11,17 +11,17 @@ use Rattle.tdb_base.specs.declared.reply.Reply.{Reply}
 use Rattle.tdb_base.specs.declared.reply.Reply.TheVariants as r
 use Rattle.tdb_base.proofs.ListLemmas.{before-or-last}
 use Rattle.run_check.specs.Reached.{Line}
-use Rattle.run_check.specs.Table.{HasKey, IsFree, IsTableOf, NoneHas, HasSlot, hash_of, is_vector, mixed, probe, vector_hash}
+use Rattle.run_check.specs.Table.{HasKey, IsFree, IsTableOf, NoneHas, HasSlot, hash_of, is_vector, mixed, probe, spread, vector_hash}
 use Rattle.run_check.specs.declared.table.Key.{Key}
 use Rattle.run_check.specs.declared.table.Key.TheVariants as k
 use Rattle.run_check.proofs.Dealt.{line-reply, line-vector, new-id}
 
 -- a line has one hash
 same-hash : (trace : List Vector) (replies : List Reply) (i : ℕ) (a b : Key) → HasKey trace replies i a → HasKey trace replies i b → is_vector a ≡ is_vector b → hash_of a ≡ hash_of b
-same-hash trace replies i (k.Vector v) (k.Vector w) one other e = ap vector_hash (line-vector trace replies i v.now w.now (r.New one.0) (r.New other.0) one.1 other.1)
+same-hash trace replies i (k.Vector v) (k.Vector w) one other e = ap (λ (u : Vector). spread (vector_hash u)) (line-vector trace replies i v.now w.now (r.New one.0) (r.New other.0) one.1 other.1)
 same-hash trace replies i (k.Vector v) (k.Identifier b) one other e = cc e
 same-hash trace replies i (k.Identifier a) (k.Vector w) one other e = cc e
-same-hash trace replies i (k.Identifier a) (k.Identifier b) one other e = ap (λ (id : ℕ). mixed id 0) (new-id a b (line-reply trace replies i one.0 other.0 (r.New a) (r.New b) one.1 other.1))
+same-hash trace replies i (k.Identifier a) (k.Identifier b) one other e = ap spread (new-id a b (line-reply trace replies i one.0 other.0 (r.New a) (r.New b) one.1 other.1))
 
 pub kept-none : (trace : List Vector) (replies : List Reply) (vectors : Bool) (n : ℕ) (slots : List ℕ) → slots ≡ replicate (n + 1) 0 → IsTableOf trace replies 0 vectors slots
 kept-none trace replies vectors n slots e = record {

@@ -1,5 +1,5 @@
 -- A hash table of lines that are answered new.
-use Rattle.std.specs.Prelude.{◌≡◌, ◌≢◌, ◌<◌, ◌+◌, ◌*◌, ◌%◌, ◌^◌, ℕ, Bool, true, false, List}
+use Rattle.std.specs.Prelude.{◌≡◌, ◌≢◌, ◌<◌, ◌+◌, ◌*◌, ◌%◌, ◌/◌, ◌^◌, ℕ, Bool, true, false, List}
 use Rattle.std.specs.Prelude.{Option, Some, None, length, fold, slice_index, slice_set}
 use Rattle.tdb_base.specs.History.{Vector}
 use Rattle.tdb_base.specs.declared.reply.Reply.{Reply}
@@ -25,9 +25,13 @@ mixed h x = (h * 0x9E37_79B9_7F4A_7C15 + x) % 2 ^ 64
 unfoldable pub vector_hash : Vector → ℕ
 vector_hash v = fold mixed 0 v
 
+-- the high half of a number that is mixed once more, which each of its bits reaches
+abbrev pub spread : ℕ → ℕ
+spread h = mixed h 0 / 2 ^ 32
+
 abbrev pub hash_of : Key → ℕ
-hash_of (k.Vector v) = vector_hash v.now
-hash_of (k.Identifier id) = mixed id 0
+hash_of (k.Vector v) = spread (vector_hash v.now)
+hash_of (k.Identifier id) = spread id
 
 -- the slots of a table that are looked at for a hash, one after the other
 abbrev pub probe : ℕ → ℕ → ℕ → ℕ

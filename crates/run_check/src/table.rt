@@ -2,7 +2,7 @@
 
 ghost use Rattle.std.specs.Prelude.{◌≡◌, ◌<◌, ◌+◌, ◌^◌, ◌↔◌, ℕ, List, IsTrue, IfOk, OnOk, length, replicate};
 ghost use Rattle.run_check.specs.Table.{AreWithin, HasKey, IsFound, PutAt, hash_of, line_at, mixed};
-ghost use Rattle.run_check.specs.Table.{vector_hash};
+ghost use Rattle.run_check.specs.Table.{spread, vector_hash};
 
 use std::alloc::Global;
 use std::marker::Model;
@@ -37,8 +37,8 @@ impl Key<'_> {
         ensures { result ≡ hash_of self.entry }
     {
         match self {
-            Key::Vector(vector) => vector_hash(vector),
-            Key::Identifier(id) => mixed(id, 0),
+            Key::Vector(vector) => spread(vector_hash(vector)),
+            Key::Identifier(id) => spread(id),
         }
     }
 }
@@ -57,6 +57,13 @@ fn mixed(hash: u64, slot: u64) -> u64
     ensures { result ≡ mixed hash slot }
 {
     hash.wrapping_mul(0x9E37_79B9_7F4A_7C15).wrapping_add(slot)
+}
+
+// Keys that are multiples of one power of two differ here too, whatever a table's size is.
+fn spread(hash: u64) -> u64
+    ensures { result ≡ spread hash }
+{
+    mixed(hash, 0) >> 32
 }
 
 // Where a key stands in a table.
