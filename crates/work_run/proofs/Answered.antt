@@ -3,13 +3,11 @@ use Rattle.std.proofs.Common.{◌≡◌, ◌⊎◌, ℕ, zero, suc, ◌+◌, ◌
 use Rattle.std.specs.Prelude.{slice_get}
 use Rattle.tree_shape.specs.Tree.{Has, IsPart}
 use Rattle.tree_shape.proofs.Trees.{stands_more}
-use Rattle.tdb_base.specs.Agrees.{entries_of}
 use Rattle.tdb_base.specs.History.{Vector, History, calls}
 use Rattle.tdb_base.specs.Legal.{Extends}
 use Rattle.tdb_base.specs.Replies.{is_full}
 use Rattle.tdb_base.specs.declared.reply.Reply.{Reply}
 use Rattle.tdb_base.specs.declared.reply.Reply.TheVariants as r
-use Rattle.tdb_base.proofs.PickLemmas.{entries_push}
 use Rattle.pair_rule.specs.declared.sizes.About.{About}
 use Rattle.pair_rule.specs.declared.pass.PassOf.{PassOf}
 use Rattle.pair_rule.specs.View.{face}
@@ -23,6 +21,7 @@ use Rattle.tree_store.specs.Vectors.{puts_after, Gained}
 use Rattle.tree_store.specs.Store.{NeverNamed, Advanced, KeepsLastTree, IsAnswered}
 use Rattle.work_run.specs.Full.{Barred, IsOfOne}
 use Rattle.work_run.specs.Inserted.{last_after, last_of, puts_of, Inserted}
+use Rattle.work_run.specs.Telling.{insertion}
 
 -- ---- more nodes and roots
 
@@ -80,10 +79,10 @@ module _ {T : Type 0} (part : Part T) (store : Store) (v : Vector) (p q : PassOf
       (has_either i g.more (view p).made (subst (λ (x : List ℕ). Has i x) g.made h))
 
   -- a call that is one entry of the history
-  named_one : (fresh : Bool) (id : ℕ) (reply : Reply) → entries_of (view p).number (v ∷ []) (reply ∷ []) ≡ call (view p).number fresh v id ∷ [] → is_full reply ≡ false → Barred part store.about (view q).known (root_pairs part (view q)) v reply
+  named_one : (fresh : Bool) (id : ℕ) (reply : Reply) → insertion.entries (view p).number v reply ≡ call (view p).number fresh v id ∷ [] → is_full reply ≡ false → Barred part store.about (view q).known (root_pairs part (view q)) v reply
       → AtRest part store p → AtRest part store q → Advanced part (call (view p).number fresh v id ∷ []) (view p) (view q) → last_vector q ≡ Some v
       → Gained store.about v (puts_after store.about (last_vector p) v) (view p) (view q) → (view q).probes ≡ (view p).probes + puts_after store.about (last_vector p) v
-      → Inserted part store (v ∷ []) (reply ∷ []) p q
+      → Inserted part store (v ∷ []) (reply ∷ []) (λ c. insertion.entries c v reply) p q
   named_one fresh id reply entry named barred rp rq k last gained probes = record {
     one_each = refl;
     rest = rq;
@@ -100,12 +99,12 @@ module _ {T : Type 0} (part : Part T) (store : Store) (v : Vector) (p q : PassOf
   }
 
   -- a call for which there was no place
-  full_one : (most : ℕ) (reply : Reply) → is_full reply ≡ true → entries_of (view p).number (v ∷ []) (reply ∷ []) ≡ [] → AtRest part store p → AtRest part store q
+  full_one : (most : ℕ) (reply : Reply) → is_full reply ≡ true → insertion.entries (view p).number v reply ≡ [] → AtRest part store p → AtRest part store q
       → face (view q) ≡ face (view p) → Extends (view p).seen (view q).seen → IsPart (view p).known (view q).known → IsPart (root_pairs part (view p)) (root_pairs part (view q))
       → calls (view q).seen (view p).number ≡ calls (view p).seen (view p).number ++ []
       → Gained store.about v most (view p) (view q) → (view q).probes ≤ (view p).probes + puts_after store.about (last_vector p) v
       → KeepsLastTree p q → NeverNamed part store q v → Barred part store.about (view q).known (root_pairs part (view q)) v reply
-      → Inserted part store (v ∷ []) (reply ∷ []) p q
+      → Inserted part store (v ∷ []) (reply ∷ []) (λ c. insertion.entries c v reply) p q
   full_one most reply full entry rp rq face_is seen known roots own gained probes keeps never barred = record {
     one_each = refl;
     rest = rq;
@@ -121,7 +120,7 @@ module _ {T : Type 0} (part : Part T) (store : Store) (v : Vector) (p q : PassOf
     probes = omega (arith, probes);
   }
 
-  pub one_inserted : (reply : Reply) → AtRest part store p → AtRest part store q → IsAnswered part store (last_vector p) v reply p q → Inserted part store (v ∷ []) (reply ∷ []) p q
+  pub one_inserted : (reply : Reply) → AtRest part store p → AtRest part store q → IsAnswered part store (last_vector p) v reply p q → Inserted part store (v ∷ []) (reply ∷ []) (λ c. insertion.entries c v reply) p q
   one_inserted (r.New id) rp rq a = named_one true id (r.New id) refl refl tt rp rq a.call_is a.last_is a.nodes a.probes
   one_inserted (r.Seen id) rp rq a = named_one false id (r.Seen id) refl refl tt rp rq a.call_is a.last_is a.nodes a.probes
   one_inserted r.FullNodes rp rq a =
@@ -141,11 +140,6 @@ module _ {T : Type 0} (part : Part T) (store : Store) (v : Vector) (p q : PassOf
       (uncalled rp.seat.sound.mine c) a.nodes few a.last_stays a.for_good a.blocked
 
 -- ---- several lines
-
--- what the replies tell of, when a line is added
-entries_more : (n : ℕ) (vectors : List Vector) (replies : List Reply) (v : Vector) (reply : Reply) → length replies ≡ length vectors
-    → entries_of n (vectors ++ v ∷ []) (replies ++ reply ∷ []) ≡ entries_of n vectors replies ++ entries_of n (v ∷ []) (reply ∷ [])
-entries_more n vectors replies v reply same = entries_push n vectors replies v reply same
 
 last_more : (last : Option Vector) (vectors : List Vector) (replies : List Reply) (v : Vector) (reply : Reply) → length replies ≡ length vectors
     → last_of last (vectors ++ v ∷ []) (replies ++ reply ∷ []) ≡ last_after (last_of last vectors replies) v reply
@@ -181,7 +175,7 @@ at_push (u ∷ vectors) (t ∷ replies) v reply same (suc i) w s a b = next (at_
 
 module _ {T : Type 0} (part : Part T) (refusals : Refusals part) (store : Store) where
   -- none yet
-  pub none_inserted : (p : PassOf T) → AtRest part store p → Inserted part store [] [] p p
+  pub none_inserted : (p : PassOf T) → AtRest part store p → Inserted part store [] [] (λ c. []) p p
   none_inserted p rests = record {
     one_each = refl;
     rest = rests;
@@ -202,9 +196,9 @@ module _ {T : Type 0} (part : Part T) (refusals : Refusals part) (store : Store)
   never_later p q v known roots never u ru a b = never u ru (λ i x h. a i x (known i x h)) (λ i x h. b i x (roots i x h))
 
   -- one line more
-  pub more_inserted : (p q w : PassOf T) (vectors : List Vector) (replies : List Reply) (v : Vector) (reply : Reply) → Inserted part store vectors replies p q → Inserted part store (v ∷ []) (reply ∷ []) q w
-      → Inserted part store (vectors ++ v ∷ []) (replies ++ reply ∷ []) p w
-  more_inserted p q w vectors replies v reply a b =
+  pub more_inserted : (p q w : PassOf T) (vectors : List Vector) (replies : List Reply) (earlier later : ℕ → History) (v : Vector) (reply : Reply) → Inserted part store vectors replies earlier p q → Inserted part store (v ∷ []) (reply ∷ []) later q w
+      → Inserted part store (vectors ++ v ∷ []) (replies ++ reply ∷ []) (λ c. earlier c ++ later c) p w
+  more_inserted p q w vectors replies earlier later v reply a b =
       let n = (view p).number in
       let same : (view q).number ≡ n = ap (λ f. f.number) a.face_is in
       record {
@@ -214,10 +208,9 @@ module _ {T : Type 0} (part : Part T) (refusals : Refusals part) (store : Store)
         seen = extends_trans (view p).seen (view q).seen (view w).seen a.seen b.seen;
         known = λ i x h. b.known i x (a.known i x h);
         roots = λ i x h. b.roots i x (a.roots i x h);
-        own = subst (λ (m : ℕ). calls (view w).seen m ≡ calls (view q).seen m ++ entries_of m (v ∷ []) (reply ∷ [])) same b.own
-            ∙ (ap (λ (h : History). h ++ entries_of n (v ∷ []) (reply ∷ [])) a.own
-            ∙ (append_assoc (calls (view p).seen n) (entries_of n vectors replies) (entries_of n (v ∷ []) (reply ∷ []))
-            ∙ ap (λ (h : History). calls (view p).seen n ++ h) (sym (entries_more n vectors replies v reply a.one_each))));
+        own = subst (λ (m : ℕ). calls (view w).seen m ≡ calls (view q).seen m ++ later m) same b.own
+            ∙ (ap (λ (h : History). h ++ later n) a.own
+            ∙ append_assoc (calls (view p).seen n) (earlier n) (later n));
         never = λ i u s x y full. of_never i u s full (at_push vectors replies v reply a.one_each i u s x y);
         barred = λ i u s x y. of_barred i u s (at_push vectors replies v reply a.one_each i u s x y);
         made = λ i h. ⊎_elim

@@ -62,27 +62,28 @@ module _ {T : Type 0} (part : Part T) (store : Store) where
         h;
   }
 
-  -- a all_workers that is being dismissed: the passes of those who left were joined into one
-  pub record Dismissing (base now : PassOf T) (all_workers left : List (Worker T)) : Type 0 where
-    pub done : List (Worker T)
+module _ {T S A : Type 0} (part : Part T) (store : Store) where
+  -- the passes of some workers were joined into one, the last worker's first; others are left
+  pub record Joining (base now : PassOf T) (all_workers left : List (Worker T S A)) : Type 0 where
+    pub done : List (Worker T S A)
     pub whole : all_workers ≡ left ++ done
-    pub stay : All (λ (w : Worker T). AtRest part store w.pass) left
-    pub joined : AreJoined part store base now (map (λ (w : Worker T). w.pass) done)
+    pub stay : All (λ (w : Worker T S A). AtRest part store w.pass) left
+    pub joined : AreJoined part store base now (map (λ (w : Worker T S A). w.pass) done)
 
-  pub dismissing_none : (p : PassOf T) (all_workers : List (Worker T)) → AtRest part store p → All (λ (w : Worker T). AtRest part store w.pass) all_workers → Dismissing p p all_workers all_workers
-  dismissing_none p all_workers rests all = record { done = []; whole = sym (append-nil all_workers); stay = all; joined = joined_none p rests }
+  pub joining_none : (p : PassOf T) (all_workers : List (Worker T S A)) → AtRest part store p → All (λ (w : Worker T S A). AtRest part store w.pass) all_workers → Joining p p all_workers all_workers
+  joining_none p all_workers rests all = record { done = []; whole = sym (append-nil all_workers); stay = all; joined = joined_none part store p rests }
 
   -- the last one leaves
-  pub dismissing_more : (base old new : PassOf T) (all_workers left rest : List (Worker T)) (worker : Worker T) → Dismissing base old all_workers left → left ≡ rest ++ worker ∷ []
+  pub joining_more : (base old new : PassOf T) (all_workers left rest : List (Worker T S A)) (worker : Worker T S A) → Joining base old all_workers left → left ≡ rest ++ worker ∷ []
       → AtRest part store new
       → view new ≡ joined_view part.join (view old) (view worker.pass)
       → HasTaken part (view old) (view new)
       → HasTaken part (view worker.pass) (view new)
       → new ≡ record old { seat = new.seat; nodes_count = new.nodes_count; names_count = new.names_count }
-      → Dismissing base new all_workers rest
-  dismissing_more base old new all_workers left rest worker d last rests is all theirs same = record {
-    stay = (All-pop (λ (w : Worker T). AtRest part store w.pass) left rest (Some worker) last d.stay).0;
+      → Joining base new all_workers rest
+  joining_more base old new all_workers left rest worker d last rests is all theirs same = record {
+    stay = (All-pop (λ (w : Worker T S A). AtRest part store w.pass) left rest (Some worker) last d.stay).0;
     done = worker ∷ d.done;
-    whole = d.whole ∙ (ap (λ (x : List (Worker T)). x ++ d.done) last ∙ append_assoc rest (worker ∷ []) d.done);
-    joined = joined_more base old new worker.pass (map (λ (w : Worker T). w.pass) d.done) d.joined rests is all theirs same;
+    whole = d.whole ∙ (ap (λ (x : List (Worker T S A)). x ++ d.done) last ∙ append_assoc rest (worker ∷ []) d.done);
+    joined = joined_more part store base old new worker.pass (map (λ (w : Worker T S A). w.pass) d.done) d.joined rests is all theirs same;
   }

@@ -8,3 +8,8 @@ pub mod SplitInTurn
 pub mod Answered
 pub mod Running
 pub mod Few
+pub mod Owned
+pub mod Telling
+pub mod TakenLines
+pub mod Working
+pub mod Placing

@@ -1,13 +1,12 @@
 -- The lines of one worker among those of a trace.
-use Rattle.std.proofs.Common.{◌≡◌, ◌<◌, ℕ, zero, suc, List, [], ◌∷◌, ◌++◌, length, Option, Some, None, refl, sym, ap, ◌∙◌, subst, inl, inr, ⊎_elim, arith}
-use Rattle.std.specs.Prelude.{All, slice_get}
+use Rattle.std.proofs.Common.{◌≡◌, ◌<◌, ℕ, zero, suc, List, [], ◌∷◌, ◌++◌, length, Option, Some, None, refl, sym, ap, ◌∙◌, subst, inl, inr, ⊎_elim}
+use Rattle.std.specs.Prelude.{All, map, option_map, slice_get}
 use Rattle.std.specs.List.{cons_option}
 use Rattle.std.proofs.lemmas.List.Elements.{All-get_or, All-head, All-tail}
-use Rattle.std.proofs.lemmas.Option.{get_or_from_slice_get, slice_get_within}
+use Rattle.std.proofs.lemmas.Option.{get_or_from_slice_get, slice_get-map, slice_get_within}
 use Rattle.tree_shape.specs.Tree.{Has}
 use Rattle.tdb_base.proofs.ListLemmas.{at-left, at-within}
-use Rattle.tdb_base.specs.Lines.{mine, picked}
-use Rattle.work_run.proofs.Dealing.{mine-inside}
+use Rattle.tdb_base.specs.Lines.{picked}
 
 -- a fact of each element is a fact of the one at a place
 pub all_at : {A : Type 0} (P : A → Type 0) (xs : List A) (i : ℕ) (x : A) → All P xs → slice_get xs i ≡ Some x → P x
@@ -17,21 +16,6 @@ all_at P xs i x all at = subst P (get_or_from_slice_get xs i x x at) (All-get_or
 pub at_middle : {A : Type 0} (xs ys : List A) (x : A) → slice_get (xs ++ x ∷ ys) (length xs) ≡ Some x
 at_middle [] ys x = refl
 at_middle (y ∷ xs) ys x = at_middle xs ys x
-
--- the line that a worker takes next
-pub next_within : (lines workers block worker i : ℕ) (done rest : List ℕ) → mine lines workers block worker ≡ done ++ i ∷ rest → i < lines
-next_within lines workers block worker i done rest whole =
-    mine-inside lines workers block worker (length done) i (ap (λ (xs : List ℕ). slice_get xs (length done)) whole ∙ at_middle done rest i)
-
--- what is picked at some places is a list that has the same at each
-pub picked_are : {A : Type 0} (xs : List A) (places : List ℕ) (ys : List A) → length ys ≡ length places → ((n k : ℕ) → slice_get places n ≡ Some k → slice_get xs k ≡ slice_get ys n) → picked xs places ≡ ys
-picked_are xs [] [] same each = refl
-picked_are xs [] (y ∷ ys) same each = absurd (omega arith)
-picked_are xs (k ∷ places) [] same each = absurd (omega arith)
-picked_are xs (k ∷ places) (y ∷ ys) same each =
-    let here : slice_get xs k ≡ Some y = each 0 k refl in
-    let rest = picked_are xs places ys (omega arith) (λ n m at. each (suc n) m at) in
-    rw (here, rest) refl
 
 -- places of a list to which another was appended
 pub at_front : {A : Type 0} (xs ys : List A) (k : ℕ) → k < length xs → slice_get (xs ++ ys) k ≡ slice_get xs k
@@ -61,3 +45,21 @@ picked_has {A = A} xs (i ∷ places) x h = by (slice_get xs i) refl (λ t. picke
     by : (o : Option A) → slice_get xs i ≡ o → (Has x (picked xs places) → Has x xs) → Has x (cons_option o (picked xs places)) → Has x xs
     by None at more h = more h
     by (Some y) at more h = ⊎_elim (λ (e : x ≡ y). here x xs i (at ∙ ap Some (sym e))) more h
+
+-- places in front see nothing of what is appended
+pub picked_front : {A : Type 0} (xs ys : List A) (places : List ℕ) → All (λ i. i < length xs) places → picked (xs ++ ys) places ≡ picked xs places
+picked_front xs ys [] within = refl
+picked_front {A = A} xs ys (i ∷ places) within =
+    let here = at_front xs ys i (All-head (λ (j : ℕ). j < length xs) i places within) in
+    let rest = picked_front xs ys places (All-tail (λ (j : ℕ). j < length xs) i places within) in
+    (λ t. cons_option (here t) (rest t))
+
+-- what is picked of images are the images
+pub picked_map : {A B : Type 0} (f : A → B) (xs : List A) (places : List ℕ) → picked (map f xs) places ≡ map f (picked xs places)
+picked_map f xs [] = refl
+picked_map {A = A} {B = B} f xs (i ∷ places) =
+    ap (λ (o : Option B). cons_option o (picked (map f xs) places)) (slice_get-map f xs i) ∙ by (slice_get xs i) (picked_map f xs places)
+  where
+    by : (o : Option A) → picked (map f xs) places ≡ map f (picked xs places) → cons_option (option_map f o) (picked (map f xs) places) ≡ map f (cons_option o (picked xs places))
+    by None rest = rest
+    by (Some x) rest = ap (λ (t : List B). f x ∷ t) rest

@@ -1,21 +1,20 @@
 -- What a run leaves: workers are split, insert their lines, and are dismissed.
-use Rattle.std.proofs.Common.{◌≡◌, ◌⊎◌, ℕ, zero, suc, ◌+◌, ◌*◌, ◌/◌, ◌%◌, ◌<◌, ◌≤◌, List, [], ◌∷◌, ◌++◌, length, get_or, map, false, Option, Some, None, refl, sym, ap, ◌∙◌, subst, inl, inr, ⊎_elim, arith, length-append}
-use Rattle.std.specs.Prelude.{All, Contains, slice_get, sum}
-use Rattle.std.specs.List.{filter_map, range_with_len}
-use Rattle.std.proofs.lemmas.Nat.{mod_below}
+use Rattle.std.proofs.Common.{◌≡◌, ◌⊎◌, ℕ, zero, suc, ◌+◌, ◌<◌, ◌≤◌, List, [], ◌∷◌, ◌++◌, length, get_or, map, false, Option, Some, None, refl, sym, ap, ◌∙◌, subst, inl, inr, ⊎_elim, arith, length-append}
+use Rattle.std.specs.Prelude.{All, Contains, flat_map, slice_get, sum}
+use Rattle.std.specs.List.{range_with_len}
 use Rattle.std.proofs.lemmas.List.FromFn.{length-map-range_with_len}
 use Rattle.std.proofs.lemmas.List.{get_or-map, length-map, nil_from_length}
 use Rattle.std.proofs.lemmas.List.Sums.{sum_by-cons}
 use Rattle.std.proofs.lemmas.Option.{slice_get_within}
 use Rattle.tree_shape.specs.Tree.{Has, IsPart}
-use Rattle.tdb_base.specs.Agrees.{AgreesAmongOthers, entries_of, entry_of_line}
+use Rattle.tdb_base.specs.Agrees.{AgreesOverAmongOthers}
 use Rattle.tdb_base.specs.History.{Vector, Entry, History, calls}
 use Rattle.tdb_base.specs.Legal.{IsLegal, Extends}
-use Rattle.tdb_base.specs.Lines.{mine, picked}
+use Rattle.tdb_base.specs.Lines.{picked}
 use Rattle.tdb_base.specs.declared.reply.Reply.{Reply}
-use Rattle.tdb_base.proofs.AgreesLemmas.{calls-some, insertion-entries}
+use Rattle.tdb_base.proofs.AgreesLemmas.{calls-some}
 use Rattle.tdb_base.proofs.ListLemmas.{at-contained}
-use Rattle.tdb_base.proofs.PickLemmas.{entries_picked, mine_below, picked_length}
+use Rattle.tdb_base.proofs.PickLemmas.{picked_length}
 use Rattle.tdb_base.proofs.TallyLemmas.{contained-at}
 use Rattle.pair_rule.specs.declared.view.View.{View}
 use Rattle.pair_rule.specs.declared.sizes.About.{About}
@@ -31,15 +30,19 @@ use Rattle.pair_nodes.specs.Roots.{Refusals}
 use Rattle.work_run.specs.declared.worker.Worker.{Worker}
 use Rattle.work_run.specs.Workers.{after_splits, after_joins, IsSplitWorker, AreSplitWorkers, AreJoined}
 use Rattle.work_run.specs.Full.{IsOfOne}
+use Rattle.work_run.specs.Giving.{Giving}
 use Rattle.work_run.specs.Inserted.{puts_of, Inserted}
-use Rattle.work_run.specs.Work.{HasAnswered}
-use Rattle.work_run.specs.Ran.{HasRun, KeepsPass, OneHistory, FullAreBarred, NewNodesAreOfLines, puts_of_worker, puts_of_all}
+use Rattle.work_run.specs.Owned.{owned}
+use Rattle.work_run.specs.Telling.{Telling, told_entries, entries_at}
+use Rattle.work_run.specs.Work.{CanWork, HasTakenLines}
+use Rattle.work_run.specs.Ran.{HasRunOver, KeepsPass, OneHistoryOver, FullAreBarred, NewNodesAreOfLines, puts_of_worker, puts_of_all}
 use Rattle.work_run.proofs.Answered.{barred_more, of_one_more}
-use Rattle.work_run.proofs.Dealing.{mine-turn}
 use Rattle.work_run.proofs.Elements.{has_or_not, has_map, has_unmap, has_place, placed, numbered_at, at_numbered}
 use Rattle.work_run.proofs.SplitInTurn.{given, after_splits_stay, whole_again}
 use Rattle.work_run.proofs.Joins.{numbers_first, numbers_other}
-use Rattle.work_run.proofs.Mine.{picked_at, picked_has}
+use Rattle.work_run.proofs.Mine.{picked_at, picked_has, picked_map}
+use Rattle.work_run.proofs.Owned.{owned_below, owned_at}
+use Rattle.work_run.proofs.Telling.{told_picked}
 
 module _ {T : Type 0} where
   after_splits_splits : (n : ℕ) (v : View T) → (after_splits n v).splits ≡ v.splits + n
@@ -86,47 +89,59 @@ module _ {T : Type 0} where
         let here = subst (λ (n : ℕ). w.probes ≤ most n) (let e : from + 0 ≡ from = omega arith in e) (each 0 w (omega arith)) in
         omega (arith, rest, here, sum_by-cons (λ (x : ℕ). x) (most from) (map most (range_with_len (from + 1) (length ws))))
 
--- each worker that answered has a reply for each of its lines
-pub replies_each : {T : Type 0} (part : Part T) (store : Store) (rooms : ℕ → ℕ) (base now : PassOf T) (trace : List Vector) (workers block : ℕ) (all_workers after : List (Worker T))
-    → AreSplitWorkers part store rooms base now all_workers → length all_workers ≡ workers
-    → ((j : ℕ) (d : Worker T) → j < length all_workers → HasAnswered part store trace workers block (get_or all_workers j d) (get_or after j d)) → length after ≡ length all_workers
-    → (j : ℕ) (d : Worker T) → j < length after → length (get_or after j d).replies.items ≡ length (mine (length trace) (length after) block j)
-replies_each part store rooms base now trace workers block all_workers after split all_split answered all_after j d lt =
-    let a = answered j d (omega arith) in
-    let number = (split.each j d (omega arith)).number_is in
-    let places = mine (length trace) workers block j in
-    let same : length (picked trace (mine (length trace) workers block (get_or all_workers j d).number)) ≡ length (picked trace places) = ap (λ (n : ℕ). length (picked trace (mine (length trace) workers block n))) number in
-    let long : workers ≡ length after = omega (arith, all_after, all_split) in
-    a.inserted.one_each ∙ (same ∙ (picked_length trace places (mine_below (length trace) workers block j) ∙ ap (λ (n : ℕ). length (mine (length trace) n block j)) long))
+-- workers that were split can work
+pub can_work : {T S A : Type 0} (part : Part T) (store : Store) (giving : Giving S) (begins : ℕ → S → Type 0) (base now : PassOf T) (all_workers : List (Worker T S A)) (lines : ℕ)
+    → AreSplitWorkers part store giving.left begins base now all_workers → ((j : ℕ) (s : S) → begins j s → giving.within lines s) → All (CanWork part store giving lines) all_workers
+can_work part store giving begins base now all_workers lines split inside = λ k d lt.
+    (let w = split.each k d lt in
+    record { rest = w.rest; none_yet = w.none_yet; room = w.room; inside = inside k (get_or all_workers k d).lines w.begins_so })
 
-module _ {T : Type 0} (part : Part T) (refusals : Refusals part) (store : Store) (rooms : ℕ → ℕ) (base now new : PassOf T) (trace : List Vector) (replies : List Reply) (workers block : ℕ)
-    (all_workers after : List (Worker T)) (split : AreSplitWorkers part store rooms base now all_workers) (all_split : length all_workers ≡ workers) (some : 1 ≤ workers) (any : 1 ≤ block)
-    (answered : (j : ℕ) (d : Worker T) → j < length all_workers → HasAnswered part store trace workers block (get_or all_workers j d) (get_or after j d)) (all_after : length after ≡ length all_workers)
-    (one_each : length replies ≡ length trace)
-    (are_placed : (j : ℕ) (d : Worker T) → j < length after → picked replies (mine (length trace) (length after) block j) ≡ (get_or after j d).replies.items)
-    (joint : AreJoined part store now new (map (λ (w : Worker T). w.pass) after)) where
+-- each worker has an answer for each of its lines
+pub answers_each : {T S A : Type 0} (part : Part T) (store : Store) (giving : Giving S) (telling : Telling A) (trace : List Vector) (owner : ℕ → ℕ) (all_workers after : List (Worker T S A))
+    → ((j : ℕ) (d : Worker T S A) → j < length all_workers → HasTakenLines part store giving telling trace (owned (length trace) owner j) (get_or all_workers j d) (get_or after j d)) → length after ≡ length all_workers
+    → (j : ℕ) (d : Worker T S A) → j < length after → length (get_or after j d).answers.items ≡ length (owned (length trace) owner j)
+answers_each part store giving telling trace owner all_workers after worked all_after j d lt =
+    let a = worked j d (omega arith) in
+    sym (length-map (get_or after j d).answers.items telling.reply) ∙ (a.inserted.one_each ∙ picked_length trace (owned (length trace) owner j) (owned_below (length trace) owner j))
+
+module _ {T S A : Type 0} (part : Part T) (refusals : Refusals part) (store : Store) (giving : Giving S) (telling : Telling A) (begins : ℕ → S → Type 0) (base now new : PassOf T) (trace : List Vector) (answers : List A)
+    (owner : ℕ → ℕ) (workers : ℕ) (owners : (i : ℕ) → i < length trace → owner i < workers)
+    (all_workers after : List (Worker T S A)) (split : AreSplitWorkers part store giving.left begins base now all_workers) (all_split : length all_workers ≡ workers)
+    (worked : (j : ℕ) (d : Worker T S A) → j < length all_workers → HasTakenLines part store giving telling trace (owned (length trace) owner j) (get_or all_workers j d) (get_or after j d)) (all_after : length after ≡ length all_workers)
+    (answer_each : length answers ≡ length trace)
+    (are_placed : (j : ℕ) (d : Worker T S A) → j < length after → picked answers (owned (length trace) owner j) ≡ (get_or after j d).answers.items)
+    (joint : AreJoined part store now new (map (λ (w : Worker T S A). w.pass) after)) where
   abbrev v0 : View T
   v0 = view base
 
   abbrev passes : List (PassOf T)
-  passes = map (λ (w : Worker T). w.pass) after
+  passes = map (λ (w : Worker T S A). w.pass) after
 
   abbrev views : List (View T)
   views = map (λ (p : PassOf T). view p) passes
 
   abbrev lines_of : ℕ → List ℕ
-  lines_of j = mine (length trace) workers block j
+  lines_of = owned (length trace) owner
+
+  abbrev replies : List Reply
+  replies = map telling.reply answers
+
+  abbrev own_entries : ℕ → ℕ → History
+  own_entries j caller = told_entries telling caller (picked trace (lines_of j)) (picked answers (lines_of j))
+
+  one_each : length replies ≡ length trace
+  one_each = length-map answers telling.reply ∙ answer_each
 
   -- the worker with this number: its pass before and after it inserted its lines
   record Mate (j : ℕ) : Type 0 where
     start : PassOf T
     pass : PassOf T
     there : Has pass passes
-    here : (d : Worker T) → (get_or after j d).pass ≡ pass
+    here : (d : Worker T S A) → (get_or after j d).pass ≡ pass
     start_is : view start ≡ child_view part.split (after_splits j v0)
     start_tree : last_vector start ≡ None
     fresh : calls v0.seen (given v0 j) ≡ []
-    inserted : Inserted part store (picked trace (lines_of j)) (picked replies (lines_of j)) start pass
+    inserted : Inserted part store (picked trace (lines_of j)) (picked replies (lines_of j)) (own_entries j) start pass
 
   untreed : (p : PassOf T) → p.has_last ≡ false → last_vector p ≡ None
   untreed p none = rw none refl
@@ -136,34 +151,32 @@ module _ {T : Type 0} (part : Part T) (refusals : Refusals part) (store : Store)
       let p = placed after j (omega arith) in
       let q = placed all_workers j (omega arith) in
       let h = split.each j q.one (omega arith) in
-      let a = answered j p.one (omega arith) in
+      let a = worked j p.one (omega arith) in
       let start = get_or all_workers j p.one in
-      let is_split = subst (λ (w : Worker T). IsSplitWorker part store (after_splits j v0) j (rooms j) w) (q.here q.one ∙ sym (q.here p.one)) h in
-      let number : start.number ≡ j = is_split.number_is in
-      let mine_replies : (get_or after j p.one).replies.items ≡ picked replies (lines_of j) =
-      sym (are_placed j p.one (omega arith)) ∙ ap (λ (n : ℕ). picked replies (mine (length trace) n block j)) (all_after ∙ all_split) in
+      let is_split = subst (λ (w : Worker T S A). IsSplitWorker part store giving.left begins (after_splits j v0) j w) (q.here q.one ∙ sym (q.here p.one)) h in
+      let own : (get_or after j p.one).answers.items ≡ picked answers (lines_of j) = sym (are_placed j p.one (omega arith)) in
       record {
         start = start.pass;
         pass = p.one.pass;
-        there = has_map (λ (w : Worker T). w.pass) p.one after p.there;
-        here = λ d. ap (λ (w : Worker T). w.pass) (p.here d);
+        there = has_map (λ (w : Worker T S A). w.pass) p.one after p.there;
+        here = λ d. ap (λ (w : Worker T S A). w.pass) (p.here d);
         start_is = is_split.view_is;
         start_tree = untreed start.pass is_split.no_tree;
         fresh = ap (λ (h : History). calls h (given v0 j)) (sym (after_splits_stay j v0).seen) ∙ subst (λ (n : ℕ). calls (after_splits j v0).seen n ≡ []) (ap (λ (u : View T). u.number) is_split.view_is) is_split.unknown.no_calls;
-        inserted = subst (λ (w : Worker T). Inserted part store (picked trace (lines_of j)) (picked replies (lines_of j)) start.pass w.pass) (p.here p.one)
-            (subst (λ (r : List Reply). Inserted part store (picked trace (lines_of j)) r start.pass (get_or after j p.one).pass) mine_replies
-            (subst (λ (n : ℕ). Inserted part store (picked trace (lines_of n)) (get_or after j p.one).replies.items start.pass (get_or after j p.one).pass) number a.inserted));
+        inserted = subst (λ (w : Worker T S A). Inserted part store (picked trace (lines_of j)) (picked replies (lines_of j)) (own_entries j) start.pass w.pass) (p.here p.one)
+            (subst (λ (r : List Reply). Inserted part store (picked trace (lines_of j)) r (own_entries j) start.pass (get_or after j p.one).pass) (sym (picked_map telling.reply answers (lines_of j)))
+            (subst (λ (x : List A). Inserted part store (picked trace (lines_of j)) (map telling.reply x) (λ c. told_entries telling c (picked trace (lines_of j)) x) start.pass (get_or after j p.one).pass) own a.inserted));
       }
 
   -- each pass that was joined is that of a worker
   mate_of : (u : View T) → Has u views → (j : ℕ) × (lt : j < workers) × (u ≡ view (mate j lt).pass)
   mate_of u h =
       let p = has_unmap (λ (p : PassOf T). view p) u passes h in
-      let w = has_unmap (λ (w : Worker T). w.pass) p.0 after p.1 in
+      let w = has_unmap (λ (w : Worker T S A). w.pass) p.0 after p.1 in
       let place = has_place w.0 after w.1 in
       let lt : place.0 < workers = omega (arith, place.1, all_after, all_split) in
       let m = mate place.0 lt in
-      (place.0, lt, p.2 ∙ (ap (λ (q : PassOf T). view q) (w.2 ∙ ap (λ (x : Worker T). x.pass) (sym place.2)) ∙ ap (λ (q : PassOf T). view q) (m.here w.0)))
+      (place.0, lt, p.2 ∙ (ap (λ (q : PassOf T). view q) (w.2 ∙ ap (λ (x : Worker T S A). x.pass) (sym place.2)) ∙ ap (λ (q : PassOf T). view q) (m.here w.0)))
 
   -- what the new view is
   joined_is : view new ≡ after_joins part.join (after_splits workers v0) views
@@ -192,16 +205,16 @@ module _ {T : Type 0} (part : Part T) (refusals : Refusals part) (store : Store)
       (λ j lt. (view (mate j lt).pass, has_view j lt, has_own j lt)))
 
   -- the calls of a worker
-  calls_of : (j : ℕ) (lt : j < workers) → calls (view new).seen (given v0 j) ≡ filter_map (entry_of_line (given v0 j) trace replies) (lines_of j)
+  calls_of : (j : ℕ) (lt : j < workers) → calls (view new).seen (given v0 j) ≡ flat_map (entries_at telling trace answers (given v0 j)) (lines_of j)
   calls_of j lt =
       let m = mate j lt in
       let n = given v0 j in
       let start : (view m.start).number ≡ n = ap (λ (u : View T). u.number) m.start_is in
-      let own = subst (λ (x : ℕ). calls (view m.pass).seen x ≡ calls (view m.start).seen x ++ entries_of x (picked trace (lines_of j)) (picked replies (lines_of j))) start m.inserted.own in
+      let own = subst (λ (x : ℕ). calls (view m.pass).seen x ≡ calls (view m.start).seen x ++ own_entries j x) start m.inserted.own in
       let none : calls (view m.start).seen n ≡ [] = ap (λ (u : View T). calls u.seen n) m.start_is ∙ (ap (λ (h : History). calls h n) (after_splits_stay j v0).seen ∙ m.fresh) in
       (taken_of j lt).calls n (has_own j lt)
-      ∙ (own ∙ (ap (λ (h : History). h ++ entries_of n (picked trace (lines_of j)) (picked replies (lines_of j))) none
-      ∙ sym (entries_picked n trace replies (lines_of j) one_each (mine_below (length trace) workers block j))))
+      ∙ (own ∙ (ap (λ (h : History). h ++ own_entries j n) none
+      ∙ sym (told_picked telling n trace answers (lines_of j) answer_each (owned_below (length trace) owner j))))
 
   -- the line with a number is one of its worker's, as is the reply
   record Turn (i : ℕ) (v : Vector) (reply : Reply) : Type 0 where
@@ -214,15 +227,15 @@ module _ {T : Type 0} (part : Part T) (refusals : Refusals part) (store : Store)
   turn : (i : ℕ) (v : Vector) (reply : Reply) → slice_get trace i ≡ Some v → slice_get replies i ≡ Some reply → Turn i v reply
   turn i v reply a b =
       let lt = slice_get_within trace i v a in
-      let at = mine-turn (length trace) workers block i some any lt in
-      let j : ℕ = i / block % workers in
-      let below = mine_below (length trace) workers block j in
+      let j : ℕ = owner i in
+      let at = owned_at (length trace) owner i lt in
+      let below = owned_below (length trace) owner j in
       record {
         worker = j;
-        among = mod_below (i / block) workers some;
-        number = i / (block * workers) * block + i % block;
-        line = picked_at trace (lines_of j) (i / (block * workers) * block + i % block) i v below at a;
-        answer = picked_at replies (lines_of j) (i / (block * workers) * block + i % block) i reply (subst (λ (n : ℕ). All (λ k. k < n) (lines_of j)) (sym one_each) below) at b;
+        among = owners i lt;
+        number = at.0;
+        line = picked_at trace (lines_of j) at.0 i v below at.1 a;
+        answer = picked_at replies (lines_of j) at.0 i reply (subst (λ (n : ℕ). All (λ k. k < n) (lines_of j)) (sym one_each) below) at.1 b;
       }
 
   pub full_run : FullAreBarred part store.about trace replies (view new)
@@ -235,7 +248,7 @@ module _ {T : Type 0} (part : Part T) (refusals : Refusals part) (store : Store)
   callers : List ℕ
   callers = map (given v0) (range_with_len 0 workers)
 
-  among_run : AgreesAmongOthers store.about.flags trace replies workers block v0.seen (view new).seen callers
+  among_run : AgreesOverAmongOthers store.about.flags lines_of (entries_at telling trace answers) trace replies workers v0.seen (view new).seen callers
   unfolding callers
   among_run = record {
     one_each = one_each;
@@ -252,8 +265,7 @@ module _ {T : Type 0} (part : Part T) (refusals : Refusals part) (store : Store)
         ap (λ (n : ℕ). calls v0.seen n) x.1 ∙ (mate at.0 x.0).fresh);
     in_order = λ j c a.
         (let x = at_numbered (given v0) workers j c a in
-        subst (λ (n : ℕ). calls (view new).seen n ≡ filter_map (entry_of_line n trace replies) (lines_of j)) (sym x.1) (calls_of j x.0)
-        ∙ sym (insertion-entries c trace replies (lines_of j)));
+        subst (λ (n : ℕ). calls (view new).seen n ≡ flat_map (entries_at telling trace answers n) (lines_of j)) (sym x.1) (calls_of j x.0));
     full = λ i v reply a b full.
         (let t = turn i v reply a b in
         let m = mate t.worker t.among in
@@ -302,7 +314,7 @@ module _ {T : Type 0} (part : Part T) (refusals : Refusals part) (store : Store)
       (λ (none : Has c (view new).numbers → ⊥). absurd (silent more is e there (let nothing = ap (λ (h : History). length h) (all.callers c none) in omega (arith, nothing))))
       (has_or_not c (view new).numbers)
 
-  pub history_run : OneHistory store.about trace replies workers block v0 (view new)
+  pub history_run : OneHistoryOver lines_of (entries_at telling trace answers) store.about trace replies workers v0 (view new)
   unfolding callers
   history_run = (callers, record { among = among_run; joined = joined_run; alone = λ whole. record { among = among_run; no_others = caller_of whole } })
 
@@ -329,7 +341,7 @@ module _ {T : Type 0} (part : Part T) (refusals : Refusals part) (store : Store)
       (made_either part.join (after_splits workers v0) views index made)
 
   -- the probes
-  few_probes : (j : ℕ) (lt : j < workers) → (view (mate j lt).pass).probes ≤ puts_of_worker store.about trace replies workers block j
+  few_probes : (j : ℕ) (lt : j < workers) → (view (mate j lt).pass).probes ≤ puts_of_worker store.about trace replies (lines_of j)
   few_probes j lt =
       let m = mate j lt in
       let none : (view m.start).probes ≡ 0 = ap (λ (u : View T). u.probes) m.start_is in
@@ -340,13 +352,13 @@ module _ {T : Type 0} (part : Part T) (refusals : Refusals part) (store : Store)
   view_at j d lt =
       let here : j < length after = omega (arith, all_after, all_split) in
       let one = (placed after j here).one in
-      get_or-map (λ (p : PassOf T). view p) passes j one.pass d (omega (arith, length-map after (λ (w : Worker T). w.pass)))
-      ∙ (ap (λ (p : PassOf T). view p) (get_or-map (λ (w : Worker T). w.pass) after j one one.pass here) ∙ ap (λ (p : PassOf T). view p) ((mate j lt).here one))
+      get_or-map (λ (p : PassOf T). view p) passes j one.pass d (omega (arith, length-map after (λ (w : Worker T S A). w.pass)))
+      ∙ (ap (λ (p : PassOf T). view p) (get_or-map (λ (w : Worker T S A). w.pass) after j one one.pass here) ∙ ap (λ (p : PassOf T). view p) ((mate j lt).here one))
 
-  pub probes_run : (view new).probes ≤ v0.probes + puts_of_all store.about trace replies workers block
+  pub probes_run : (view new).probes ≤ v0.probes + puts_of_all store.about trace replies lines_of workers
   probes_run =
-      let most = puts_of_worker store.about trace replies workers block in
-      let long : length views ≡ workers = length-map passes (λ (p : PassOf T). view p) ∙ (length-map after (λ (w : Worker T). w.pass) ∙ (all_after ∙ all_split)) in
+      let most = λ (j : ℕ). puts_of_worker store.about trace replies (lines_of j) in
+      let long : length views ≡ workers = length-map passes (λ (p : PassOf T). view p) ∙ (length-map after (λ (w : Worker T S A). w.pass) ∙ (all_after ∙ all_split)) in
       let few = probes_within part.join (after_splits workers v0) views most 0
       (λ j d lt. (let inside : j < workers = omega (arith, long) in subst (λ (n : ℕ). (get_or views j d).probes ≤ most n) (let e : j ≡ 0 + j = omega arith in e)
       (subst (λ (u : View T). u.probes ≤ most j) (sym (view_at j d inside)) (few_probes j inside)))) in
@@ -368,5 +380,5 @@ module _ {T : Type 0} (part : Part T) (refusals : Refusals part) (store : Store)
       }
 
   -- all of it
-  pub runs : HasRun part store.about trace replies workers block base new
+  pub runs : HasRunOver (owned (length trace) owner) (entries_at telling trace answers) part store.about trace (map telling.reply answers) workers base new
   runs = record { one_history = history_run; kept = kept_run; whole = whole_run; nodes = nodes_run; full = full_run; probes = probes_run }

@@ -104,27 +104,32 @@ module _ {T : Type 0} where
           probes = omega (arith, s.probes, d.probes);
         }
 
-module _ {T : Type 0} (part : Part T) (store : Store) (rooms : ℕ → ℕ) where
-  pub split_none : (p : PassOf T) → AtRest part store p → AreSplitWorkers part store rooms p p []
-  split_none p rests = record { rest = rests; pass_is = refl; view_is = refl; each = λ j d lt. absurd (omega arith) }
+module _ {T S A : Type 0} (part : Part T) (store : Store) (left : S → ℕ) (begins : ℕ → S → Type 0) where
+  pub split_none : (p : PassOf T) (none : List (Worker T S A)) → none ≡ [] → AtRest part store p → AreSplitWorkers part store left begins p p none
+  split_none p none empty rests = record {
+    rest = rests;
+    pass_is = refl;
+    view_is = ap (λ (ws : List (Worker T S A)). after_splits (length ws) (view p)) (sym empty);
+    each = λ j d lt. (let zero : length none ≡ 0 = ap (λ (ws : List (Worker T S A)). length ws) empty in absurd (omega (arith, lt, zero)));
+  }
 
-  pub split_more : (base old new : PassOf T) (all_workers : List (Worker T)) (worker : Worker T) → AreSplitWorkers part store rooms base old all_workers → AtRest part store new
-      → view new ≡ parent_view (view old) → new ≡ record old { seat = new.seat } → IsSplitWorker part store (view old) (length all_workers) (rooms (length all_workers)) worker
-      → AreSplitWorkers part store rooms base new (all_workers ++ worker ∷ [])
+  pub split_more : (base old new : PassOf T) (all_workers : List (Worker T S A)) (worker : Worker T S A) → AreSplitWorkers part store left begins base old all_workers → AtRest part store new
+      → view new ≡ parent_view (view old) → new ≡ record old { seat = new.seat } → IsSplitWorker part store left begins (view old) (length all_workers) worker
+      → AreSplitWorkers part store left begins base new (all_workers ++ worker ∷ [])
   split_more base old new all_workers worker h rests is same one = record {
     rest = rests;
     pass_is = same ∙ (λ i. record (h.pass_is i) { seat = new.seat });
     view_is = is ∙ (ap (λ (v : View T). parent_view v) h.view_is ∙ ap (λ (n : ℕ). after_splits n (view base)) (let long : suc (length all_workers) ≡ length (all_workers ++ worker ∷ []) = omega (arith, length-append all_workers (worker ∷ [])) in long));
-    each = each_push (λ j w. IsSplitWorker part store (after_splits j (view base)) j (rooms j) w) all_workers worker h.each
-        (subst (λ (v : View T). IsSplitWorker part store v (length all_workers) (rooms (length all_workers)) worker) h.view_is one);
+    each = each_push (λ j w. IsSplitWorker part store left begins (after_splits j (view base)) j w) all_workers worker h.each
+        (subst (λ (v : View T). IsSplitWorker part store left begins v (length all_workers) worker) h.view_is one);
   }
 
   -- workers that did nothing, whose passes are joined back
-  pub unused : (base now new : PassOf T) (all_workers : List (Worker T)) → AreSplitWorkers part store rooms base now all_workers
-      → AreJoined part store now new (map (λ (w : Worker T). w.pass) all_workers) → Unused base new
+  pub unused : (base now new : PassOf T) (all_workers : List (Worker T S A)) → AreSplitWorkers part store left begins base now all_workers
+      → AreJoined part store now new (map (λ (w : Worker T S A). w.pass) all_workers) → Unused base new
   unused base now new all_workers h j =
       let v = view base in
-      let passes = map (λ (w : Worker T). w.pass) all_workers in
+      let passes = map (λ (w : Worker T S A). w.pass) all_workers in
       let ws = map (λ (p : PassOf T). view p) passes in
       let final : view new ≡ after_joins part.join (after_splits (length all_workers) v) ws = j.view_is ∙ ap (λ (x : View T). after_joins part.join x ws) h.view_is in
       let stay = after_splits_stay (length all_workers) v in
@@ -144,15 +149,15 @@ module _ {T : Type 0} (part : Part T) (store : Store) (rooms : ℕ → ℕ) wher
         whole = λ whole. subst (λ (x : View T). Whole x) from (whole_again part.join v (length all_workers) ws whole (λ u t. none u t) (λ k lt. one k lt));
       }
     where
-      worker_of : (u : View T) → Has u (map (λ (p : PassOf T). view p) (map (λ (w : Worker T). w.pass) all_workers)) → (k : ℕ) × (k < length all_workers) × (u ≡ child_view part.split (after_splits k (view base)))
+      worker_of : (u : View T) → Has u (map (λ (p : PassOf T). view p) (map (λ (w : Worker T S A). w.pass) all_workers)) → (k : ℕ) × (k < length all_workers) × (u ≡ child_view part.split (after_splits k (view base)))
       worker_of u t =
-          let p = has_unmap (λ (p : PassOf T). view p) u (map (λ (w : Worker T). w.pass) all_workers) t in
-          let w = has_unmap (λ (w : Worker T). w.pass) p.0 all_workers p.1 in
+          let p = has_unmap (λ (p : PassOf T). view p) u (map (λ (w : Worker T S A). w.pass) all_workers) t in
+          let w = has_unmap (λ (w : Worker T S A). w.pass) p.0 all_workers p.1 in
           let place = has_place w.0 all_workers w.1 in
           let is = (h.each place.0 w.0 place.1).view_is in
-          (place.0, place.1, p.2 ∙ (ap (λ (q : PassOf T). view q) w.2 ∙ (ap (λ (y : Worker T). view y.pass) (sym place.2) ∙ is)))
+          (place.0, place.1, p.2 ∙ (ap (λ (q : PassOf T). view q) w.2 ∙ (ap (λ (y : Worker T S A). view y.pass) (sym place.2) ∙ is)))
 
-      did : (u : View T) → Has u (map (λ (p : PassOf T). view p) (map (λ (w : Worker T). w.pass) all_workers)) → DidNothing part.join (after_splits (length all_workers) (view base)) u
+      did : (u : View T) → Has u (map (λ (p : PassOf T). view p) (map (λ (w : Worker T S A). w.pass) all_workers)) → DidNothing part.join (after_splits (length all_workers) (view base)) u
       did u t =
           let w = worker_of u t in
           let a = after_splits_stay w.0 (view base) in
@@ -164,15 +169,15 @@ module _ {T : Type 0} (part : Part T) (store : Store) (rooms : ℕ → ℕ) wher
             probes = ap (λ (x : View T). x.probes) w.2;
           }
 
-      none : (u : View T) → Has u (map (λ (p : PassOf T). view p) (map (λ (w : Worker T). w.pass) all_workers)) → u.born ≡ []
+      none : (u : View T) → Has u (map (λ (p : PassOf T). view p) (map (λ (w : Worker T S A). w.pass) all_workers)) → u.born ≡ []
       none u t = ap (λ (x : View T). x.born) (worker_of u t).2
 
-      one : (k : ℕ) → k < length all_workers → (u : View T) × Has u (map (λ (p : PassOf T). view p) (map (λ (w : Worker T). w.pass) all_workers)) × Has (given (view base) k) u.numbers
+      one : (k : ℕ) → k < length all_workers → (u : View T) × Has u (map (λ (p : PassOf T). view p) (map (λ (w : Worker T S A). w.pass) all_workers)) × Has (given (view base) k) u.numbers
       one k lt =
           let p = placed all_workers k lt in
           let is = (h.each k p.one lt).view_is in
-          let same : view p.one.pass ≡ child_view part.split (after_splits k (view base)) = ap (λ (y : Worker T). view y.pass) (sym (p.here p.one)) ∙ is in (
+          let same : view p.one.pass ≡ child_view part.split (after_splits k (view base)) = ap (λ (y : Worker T S A). view y.pass) (sym (p.here p.one)) ∙ is in (
             view p.one.pass,
-            has_map (λ (p : PassOf T). view p) p.one.pass (map (λ (w : Worker T). w.pass) all_workers) (has_map (λ (w : Worker T). w.pass) p.one all_workers p.there),
+            has_map (λ (p : PassOf T). view p) p.one.pass (map (λ (w : Worker T S A). w.pass) all_workers) (has_map (λ (w : Worker T S A). w.pass) p.one all_workers p.there),
             subst (λ (x : View T). Has (given (view base) k) x.numbers) (sym same) (inl refl),
           )

@@ -1,5 +1,5 @@
 -- The laws of dealing a trace's lines out to workers.
-use Rattle.std.specs.Prelude.{◌≡◌, ◌<◌, ◌/◌, ◌%◌, ℕ, Some, Contains}
+use Rattle.std.specs.Prelude.{◌≡◌, ◌<◌, ◌≤◌, ◌^◌, ◌/◌, ◌%◌, ℕ, Some, Contains}
 use Rattle.std.specs.List.{range_with_len, slice_get}
 use Rattle.tdb_base.specs.Lines.{mine}
 
@@ -29,3 +29,11 @@ EachHasAWorker =
 -- a worker alone has all lines, in order
 abbrev pub OneWorkerHasAll : Type 0
 OneWorkerHasAll = (lines block : ℕ) → mine lines 1 block 0 ≡ range_with_len 0 lines
+
+-- the numbers of a trace that is dealt out are in their ranges
+pub record IsDealt (lines workers block : ℕ) : Type 0 where
+  pub few_lines : lines ≤ 2 ^ 32
+  pub some_workers : 1 ≤ workers
+  pub few_workers : workers ≤ 64
+  pub some_block : 1 ≤ block
+  pub small_block : block ≤ 65536

@@ -2,8 +2,7 @@
 use Rattle.std.specs.Prelude.{◌≡◌, ◌+◌, ◌≤◌, ◌⊎◌, ℕ, true, List, [], ◌∷◌, ◌++◌, Option, Some, length}
 use Rattle.std.specs.Prelude.{slice_get, if◌then◌else◌}
 use Rattle.tree_shape.specs.Tree.{Has, IsPart}
-use Rattle.tdb_base.specs.Agrees.{entries_of}
-use Rattle.tdb_base.specs.History.{Vector, calls}
+use Rattle.tdb_base.specs.History.{Vector, History, calls}
 use Rattle.tdb_base.specs.Legal.{Extends}
 use Rattle.tdb_base.specs.Replies.{is_full}
 use Rattle.tdb_base.specs.declared.reply.Reply.{Reply}
@@ -34,17 +33,17 @@ puts_of about last (v ∷ vectors) [] = 0
 puts_of about last (v ∷ vectors) (reply ∷ replies) =
     puts_after about last v + puts_of about (last_after last v reply) vectors replies
 
--- the pass inserted these vectors, one after the other, and was answered so
+-- the pass inserted these vectors, one after the other, and was answered so; its calls are these
 pub record Inserted {T : Type 0} (part : Part T) (store : Store) (vectors : List Vector)
-    (replies : List Reply) (old new : PassOf T) : Type 0 where
+    (replies : List Reply) (entries : ℕ → History) (old new : PassOf T) : Type 0 where
   pub one_each : length replies ≡ length vectors
   pub rest : AtRest part store new
   pub face_is : face (view new) ≡ face (view old)
   pub seen : Extends (view old).seen (view new).seen
   pub known : IsPart (view old).known (view new).known
   pub roots : IsPart (root_pairs part (view old)) (root_pairs part (view new))
-  pub own : calls (view new).seen (view old).number ≡ calls (view old).seen (view old).number ++ entries_of
-      (view old).number vectors replies
+  pub own : calls (view new).seen (view old).number
+      ≡ calls (view old).seen (view old).number ++ entries (view old).number
   pub never : (i : ℕ) (v : Vector) (reply : Reply) → slice_get vectors i ≡ Some v
       → slice_get replies i ≡ Some reply → is_full reply ≡ true → NeverNamed part store new v
   pub barred : (i : ℕ) (v : Vector) (reply : Reply) → slice_get vectors i ≡ Some v

@@ -1,5 +1,8 @@
+pub mod Owned
 pub mod Dealing
+pub mod Giving
 pub mod ToCome
+pub mod Telling
 pub mod Full
 pub mod Inserted
 pub mod Workers

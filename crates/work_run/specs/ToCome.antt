@@ -1,6 +1,8 @@
 -- The lines that a worker still has to take.
-use Rattle.std.specs.Prelude.{ℕ, ◌+◌, ◌-◌, ◌%◌, ◌^◌, ◌<◌, ◌≤◌, Bool, nat_lt, List, filter}
+use Rattle.std.specs.Prelude.{◌≡◌, ℕ, ◌+◌, ◌-◌, ◌%◌, ◌^◌, ◌<◌, ◌≤◌, Bool, nat_lt, List, [], ◌++◌, All, filter, length}
 use Rattle.std.specs.List.{range_with_len}
+use Rattle.std.proofs.Common.{append_assoc, refl, sym, ap, ◌∙◌}
+use Rattle.work_run.specs.Giving.{Giving, AddsUp}
 
 -- rounds begin at `start`, and i is one of the first `block` lines of its round
 abbrev pub is_dealt : ℕ → ℕ → ℕ → ℕ → Bool
@@ -20,3 +22,18 @@ pub record IsUnderway (lines block gap next block_end : ℕ) : Type 0 where
   pub whole : block ≤ block_end
   pub begun : block_end ≤ next + block
   pub unfinished : next < block_end
+
+-- the lines that are dealt to a worker are given from the first on
+abbrev pub dealt_lines : Giving (List ℕ)
+dealt_lines = record {
+  gives = λ old lines new. old ≡ lines ++ new;
+  is_over = λ left. left ≡ [];
+  left = λ left. length left;
+  within = λ lines left. All (λ i. i < lines) left;
+}
+
+pub dealt_lines_add_up : AddsUp dealt_lines
+dealt_lines_add_up = record {
+  none = λ s. refl;
+  more = λ s t u first next one two. one ∙ (ap (λ (xs : List ℕ). first ++ xs) two ∙ sym (append_assoc first next u));
+}

@@ -22,25 +22,27 @@ module _ {T : Type 0} where
   after_joins join v (w ∷ ws) = joined_view join (after_joins join v ws) w
 
   module _ (part : Part T) (store : Store) where
-    -- the worker has not begun: its pass was split from one with this view, and there is room for so many
-    -- replies
-    pub record IsSplitWorker (before : View T) (number room : ℕ) (worker : Worker T) : Type 0 where
+    -- the worker has not begun: its pass was split from one with this view, it has its lines from this, and
+    -- there is room for the answers to them
+    pub record IsSplitWorker {S A : Type 0} (left : S → ℕ) (begins : ℕ → S → Type 0) (before : View T)
+        (number : ℕ) (worker : Worker T S A) : Type 0 where
       pub number_is : worker.number ≡ number
       pub rest : AtRest part store worker.pass
       pub view_is : view worker.pass ≡ child_view part.split before
       pub unknown : IsUnknown (view worker.pass).number before
       pub no_tree : worker.pass.has_last ≡ false
-      pub no_replies : worker.replies.items ≡ []
-      pub room_is : room ≤ vec_capacity worker.replies
+      pub begins_so : begins number worker.lines
+      pub none_yet : worker.answers.items ≡ []
+      pub room : left worker.lines ≤ vec_capacity worker.answers
 
-    -- these workers have not begun, with passes that were split from one pass in turn, and room for so many
-    -- replies each
-    pub record AreSplitWorkers (rooms : ℕ → ℕ) (base now : PassOf T) (all_workers : List (Worker T)) : Type 0 where
+    -- these workers have not begun, with passes that were split from one pass in turn
+    pub record AreSplitWorkers {S A : Type 0} (left : S → ℕ) (begins : ℕ → S → Type 0) (base now : PassOf T)
+        (all_workers : List (Worker T S A)) : Type 0 where
       pub rest : AtRest part store now
       pub pass_is : now ≡ record base { seat = now.seat }
       pub view_is : view now ≡ after_splits (length all_workers) (view base)
-      pub each : (j : ℕ) (d : Worker T) → j < length all_workers
-          → IsSplitWorker (after_splits j (view base)) j (rooms j) (slice_index_or all_workers j d)
+      pub each : (j : ℕ) (d : Worker T S A) → j < length all_workers
+          → IsSplitWorker left begins (after_splits j (view base)) j (slice_index_or all_workers j d)
 
     -- other passes were joined into one
     pub record AreJoined (base now : PassOf T) (others : List (PassOf T)) : Type 0 where

@@ -2,10 +2,12 @@
 //! lines are cut into blocks of so many lines, and the blocks are dealt out to the workers in turn.
 #![tactic(auto)]
 
-mod insert;
+mod dealt;
 mod lines;
 mod place;
 mod run;
+mod supply;
+mod task;
 mod turns;
 mod work;
 mod worker;

@@ -1,7 +1,7 @@
 //! Which lines are a worker's. A trace's lines are numbered from 0 and cut into blocks; of `n` workers,
 //! worker `j` has the blocks `j`, `j + n`, `j + 2n` and so on.
 
-ghost use Rattle.std.specs.Prelude.{◌≡◌, ℕ, ◌<◌, ◌≤◌, ◌^◌, ◌↔◌, Some, None, length};
+ghost use Rattle.std.specs.Prelude.{◌≡◌, ◌<◌, ◌≤◌, ◌^◌, ◌↔◌, None, length};
 ghost use Rattle.std.specs.List.{slice_get};
 ghost use Rattle.tdb_base.specs.Lines.{mine};
 ghost use Rattle.work_run.specs.Dealing.{WithinTheTrace, OneWorkerEach, OneTurnEach, EachHasAWorker};
@@ -33,27 +33,6 @@ pub(crate) fn count_of(lines: u64, workers: u64, block: u64, worker: u64) -> u64
     let round = block * workers;
     let rest = (lines % round).saturating_sub(worker * block);
     lines / round * block + rest.min(block)
-}
-
-/// Whose line a line is, and which of that worker's lines, both from 0.
-#[derive(Clone, Copy, Debug, PartialEq, Eq)]
-pub(crate) struct Turn {
-    pub(crate) worker: u64,
-    pub(crate) number: u64,
-}
-
-/// The turn of line `i`.
-pub(crate) fn turn_of(i: u64, workers: u64, block: u64) -> Turn
-    requires workers { (1 ≤ workers) × (workers ≤ 64) }
-    requires block { (1 ≤ block) × (block ≤ 65536) }
-    ensures worker { result.worker < workers }
-    ensures line { (lines : ℕ) → i < lines
-        → slice_get (mine lines workers block result.worker) result.number ≡ Some i }
-{
-    Turn {
-        worker: i / block % workers,
-        number: i / (block * workers) * block + i % block,
-    }
 }
 
 /// The lines of a trace are dealt out to its workers: each worker's are lines of the trace, no line has two

@@ -6,7 +6,9 @@ ghost use Rattle.tree_store.specs.Vectors.{IsVector};
 ghost use Rattle.work_run.specs.Workers.{Unused};
 ghost use Rattle.work_run.specs.Ran.{HasRun, FewPuts};
 
+use crate::dealt::Dealt;
 use crate::place::place;
+use crate::task::PlainInsertion;
 use crate::work::work_at_once;
 use crate::workers::{join_workers, split_workers};
 use std::alloc::Global;
@@ -43,10 +45,17 @@ pub fn run_lines<R: Threads + Sync, G: Gate, const W: u32, const F: u32>(
         HasRun plain store.now.about trace.now replies.items workers block pass.old pass.new) }
     ensures refused { OnErr result (Unused pass.old pass.new) }
 {
+    let dealt = Dealt {
+        lines: trace.len(),
+        workers,
+        block,
+    };
+    let mut dealing = dealt;
     let mut replies = Vec::with_capacity(alloc, trace.len() as usize)?;
-    let mut all_workers = split_workers(alloc, store, pass, trace.len(), workers, block)?;
-    work_at_once(rt, store, trace, workers, block, &mut all_workers, gate);
-    place(&all_workers, trace.len(), block, &mut replies);
+    let mut all_workers = split_workers(alloc, store, pass, &mut dealing, workers)?;
+    let task = PlainInsertion { store };
+    work_at_once(rt, &task, trace, &mut all_workers, gate);
+    place(&all_workers, trace.len(), &dealt, &mut replies);
     join_workers(store, pass, all_workers);
     Ok(replies)
 }

@@ -3,8 +3,10 @@
 mod crowd;
 mod schedules;
 
+use super::dealt::{Dealt, Owners};
 use super::line_of;
-use super::lines::{Turn, count_of, turn_of};
+use super::lines::count_of;
+use super::supply::Supply;
 use super::turns::Turns;
 use std::process::Abort;
 
@@ -20,7 +22,15 @@ fn expect_dealt(rt: &impl Abort, lines: u64, workers: u64, block: u64) {
             if i / block % workers == worker {
                 assert!(rt; number <= i);
                 assert_eq!(rt; line_of(lines, workers, block, worker, number), Some(i));
-                assert!(rt; turn_of(i, workers, block) == Turn { worker, number });
+                assert!(rt;
+                    Dealt {
+                        lines,
+                        workers,
+                        block
+                    }
+                    .owner_of(i)
+                        == worker
+                );
                 assert_eq!(rt; turns.next(), Some(i));
                 number += 1;
             }
@@ -47,7 +57,15 @@ fn expect_line(
     assert!(rt; 1 <= block && block <= 65_536);
     assert_eq!(rt; line_of(lines, workers, block, worker, n), line);
     match line {
-        Some(i) => assert!(rt; turn_of(i, workers, block) == Turn { worker, number: n }),
+        Some(i) => assert!(rt;
+            Dealt {
+                lines,
+                workers,
+                block
+            }
+            .owner_of(i)
+                == worker
+        ),
         None => assert!(rt; count_of(lines, workers, block, worker) <= n),
     }
 }

@@ -1,11 +1,13 @@
 //! A worker's lines one after another, without a division for each.
 
-ghost use Rattle.std.specs.Prelude.{◌≡◌, ℕ, ◌<◌, ◌≤◌, ◌^◌, ◌↔◌, None, [], ◌∷◌, MatchOption};
+ghost use Rattle.std.specs.Prelude.{◌≡◌, ◌<◌, ◌≤◌, ◌^◌};
 ghost use Rattle.tdb_base.specs.Lines.{mine};
 
+use crate::supply::Supply;
 use std::marker::Model;
 
-/// The lines that a worker still has to take, in rising order. Contracts see it as the list of their numbers.
+/// The lines that are dealt to a worker and that it still has to take, in rising order. Contracts see the list
+/// of their numbers.
 #[derive(Drop)]
 pub(crate) struct Turns {
     lines: u64,
@@ -45,12 +47,14 @@ impl Turns {
             block_end: next + block,
         }
     }
+}
 
-    /// Takes the next line, if there is one. After the last one it answers `None` each time.
-    pub(crate) fn next(&mut self) -> Option<u64>
-        ensures done { (result ≡ None) ↔ (self.old ≡ []) }
-        ensures line { MatchOption result (self.new ≡ self.old) (λ i. self.old ≡ i ∷ self.new) }
-    {
+impl Supply for Turns {
+    ghost use Rattle.work_run.specs.ToCome.{dealt_lines, dealt_lines_add_up};
+
+    ghost giving = { dealt_lines };
+
+    fn next(&mut self) -> Option<u64> {
         let line = self.next;
         if line >= self.lines {
             return None;
@@ -62,4 +66,6 @@ impl Turns {
         }
         Some(line)
     }
+
+    ghost adds_up = { dealt_lines_add_up };
 }

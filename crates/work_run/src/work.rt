@@ -1,56 +1,54 @@
-//! All workers insert their lines at once.
+//! Workers work through their lines, all at once.
 ghost use Rattle.std.specs.Prelude.{◌≡◌, ℕ, ◌<◌, ◌≤◌, ◌^◌, All, length, slice_index_or};
-ghost use Rattle.root_plain.specs.Plain.{plain};
 ghost use Rattle.tree_store.specs.Vectors.{IsVector};
-ghost use Rattle.work_run.specs.Work.{IsReady, HasAnswered};
+ghost use Rattle.work_run.specs.Work.{CanWork, HasWorked};
 
-use crate::insert::insert_mine;
+use crate::supply::Supply;
+use crate::task::Task;
 use crate::worker::Worker;
-use root_plain::{PlainTable, Roots};
 use std::thread;
 use std::thread::Threads;
-use tdb_base::Gate;
+use tdb_base::{Gate, Kept, Steps};
 use trace_csv::Trace;
-use tree_store::PlainStore;
 
-// A worker of a plain store inserts its lines.
-fn insert_plainly<G: Gate, const W: u32, const F: u32>(
-    store: &PlainStore<W, F>,
+// The worker takes its lines one after the other, does the task with each, and keeps the answers. The gate is
+// called before and after each line.
+fn work_through<T: Task, S: Supply, G: Gate>(
+    task: &T,
     trace: &Trace,
-    workers: u64,
-    block: u64,
-    worker: &mut Worker<Roots>,
+    worker: &mut Worker<T::View, S, T::Answer>,
     gate: &G,
 )
     requires lines { length trace.now ≤ 2 ^ 32 }
-    requires fit { All (IsVector store.now.about) trace.now }
-    requires workers { workers ≤ 64 }
-    requires block { (1 ≤ block) × (block ≤ 65536) }
-    requires ready { IsReady plain store.now (length trace.now) workers block worker.old }
-    ensures { HasAnswered plain store.now trace.now workers block worker.old worker.new }
+    requires fit { All (IsVector (T.store task.now).about) trace.now }
+    requires ready { CanWork T.part (T.store task.now) S.giving (length trace.now) worker.old }
+    ensures { HasWorked T.part (T.store task.now) S.giving T.telling trace.now worker.old worker.new }
 {
-    let roots = PlainTable::over(store.nodes());
-    insert_mine(&roots, store, trace, workers, block, worker, gate);
+    while let Some(i) = worker.lines.next() {
+        gate.before(worker.number, i + 1);
+        let mut steps = Steps::new(Kept { shown: 0 });
+        let answer = task.answer(&mut worker.pass, trace.line(i), &mut steps);
+        let Ok(()) = worker.answers.push(answer) else {
+            unreachable!()
+        };
+        gate.after(worker.number, i + 1, steps.shown());
+    }
 }
 
-/// Each worker inserts its lines into a plain store, in a thread of its own where one can be started.
-pub(crate) fn work_at_once<R: Threads + Sync, G: Gate, const W: u32, const F: u32>(
+/// Each worker works through its lines, in a thread of its own where one can be started.
+pub(crate) fn work_at_once<R: Threads + Sync, T: Task, S: Supply, G: Gate>(
     rt: &R,
-    store: &PlainStore<W, F>,
+    task: &T,
     trace: &Trace,
-    workers: u64,
-    block: u64,
-    all_workers: &mut Vec<Worker<Roots>>,
+    all_workers: &mut Vec<Worker<T::View, S, T::Answer>>,
     gate: &G,
 )
     requires lines { length trace.now ≤ 2 ^ 32 }
-    requires fit { All (IsVector store.now.about) trace.now }
-    requires workers { workers ≤ 64 }
-    requires block { (1 ≤ block) × (block ≤ 65536) }
-    requires ready { All (IsReady plain store.now (length trace.now) workers block) all_workers.old.items }
-    ensures answered { (j : ℕ) (d : _) → j < length all_workers.old.items
-        → HasAnswered plain store.now trace.now workers block (slice_index_or all_workers.old.items j d)
-        (slice_index_or all_workers.new.items j d) }
+    requires fit { All (IsVector (T.store task.now).about) trace.now }
+    requires ready { All (CanWork T.part (T.store task.now) S.giving (length trace.now)) all_workers.old.items }
+    ensures worked { (j : ℕ) (d : _) → j < length all_workers.old.items
+        → HasWorked T.part (T.store task.now) S.giving T.telling trace.now
+        (slice_index_or all_workers.old.items j d) (slice_index_or all_workers.new.items j d) }
     ensures all { length all_workers.new.items ≡ length all_workers.old.items }
 {
     let count = all_workers.len();
@@ -59,16 +57,14 @@ pub(crate) fn work_at_once<R: Threads + Sync, G: Gate, const W: u32, const F: u3
             rt,
             all_workers.as_mut_slice(),
             count,
-            &|_, worker: &mut Worker<Roots>|
+            &|_, worker: &mut Worker<T::View, S, T::Answer>|
                 requires lines { length trace.now ≤ 2 ^ 32 }
-                requires fit { All (IsVector store.now.about) trace.now }
-                requires workers { workers ≤ 64 }
-                requires block { (1 ≤ block) × (block ≤ 65536) }
-                requires ready { IsReady plain store.now (length trace.now) workers block worker.now }
-                ensures { HasAnswered plain store.entry.now trace.entry.now workers block worker.entry.now
-                    worker.exit.now }
+                requires fit { All (IsVector (T.store task.now).about) trace.now }
+                requires ready { CanWork T.part (T.store task.now) S.giving (length trace.now) worker.now }
+                ensures { HasWorked T.part (T.store task.entry.now) S.giving T.telling trace.entry.now
+                    worker.entry.now worker.exit.now }
             {
-                insert_plainly(store, trace, workers, block, worker, gate);
+                work_through(task, trace, worker, gate);
             },
         );
     }

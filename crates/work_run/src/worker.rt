@@ -2,19 +2,21 @@
 ghost use Rattle.std.specs.Prelude.{◌≡◌};
 
 use pair_rule::PassOf;
-use tdb_base::Reply;
 
-/// A worker with a pass of its own, and the replies to its lines so far.
+/// A worker with a pass of its own, what it has its lines from, and the answers to its lines so far.
 ///
 /// Workers stand one behind the other in memory, and each writes its fields at each line. Two of them on one
 /// cache line would wait for each other's writes, so the gap behind a worker's fields keeps the next one's
 /// off their lines. The buffers of passes are set apart likewise.
 #[repr(C)]
-pub struct Worker<T> {
+pub struct Worker<T, S, A> {
     /// Its number among the workers, from 0.
     pub number: u64,
     pub pass: PassOf<T>,
-    pub replies: Vec<Reply>,
+    /// What it has its lines from.
+    pub lines: S,
+    /// The answers to the lines that it took, in their order.
+    pub answers: Vec<A>,
     // Nobody writes it, and nobody reads it.
     gap: [u64; APART],
 }
@@ -22,40 +24,44 @@ pub struct Worker<T> {
 // Two lines of 64 bytes, in words: processors fetch lines in pairs.
 const APART: usize = 16;
 
-impl<T> Worker<T> {
-    pub(crate) fn new(number: u64, pass: PassOf<T>, replies: Vec<Reply>) -> Self
+impl<T, S: Drop, A: Drop> Worker<T, S, A> {
+    pub(crate) fn new(number: u64, pass: PassOf<T>, lines: S, answers: Vec<A>) -> Self
         ensures number { result.number ≡ number }
         ensures pass { result.pass ≡ pass }
-        ensures replies { result.replies ≡ replies }
+        ensures lines { result.lines ≡ lines }
+        ensures answers { result.answers ≡ answers }
     {
         Worker {
             number,
             pass,
-            replies,
+            lines,
+            answers,
             gap: [0; APART],
         }
     }
 
-    // The pass alone: the replies are freed.
+    // The pass alone: the answers are freed.
     pub(crate) fn into_pass(self) -> PassOf<T>
         ensures { result ≡ self.pass }
     {
         let Self {
             number: _,
             pass,
-            replies: _,
+            lines: _,
+            answers: _,
             gap: _,
         } = self;
         pass
     }
 }
 
-impl<T> Drop for Worker<T> {
+impl<T, S: Drop, A: Drop> Drop for Worker<T, S, A> {
     fn drop(self) {
         let Self {
             number: _,
             pass: _,
-            replies: _,
+            lines: _,
+            answers: _,
             gap: _,
         } = self;
     }

@@ -1,62 +1,64 @@
 //! Workers are made, each with a pass that is split from one pass, and their passes are joined into it again.
-ghost use Rattle.std.specs.Prelude.{◌≡◌, ◌≤◌, ◌^◌, IfOk, OnOk, OnErr, All, length, map};
+ghost use Rattle.std.specs.Prelude.{◌≡◌, ◌≤◌, IfOk, OnOk, OnErr, All, length, map};
 ghost use Rattle.pair_rule.specs.Rest.{AtRest, view};
 ghost use Rattle.pair_rule.specs.View.{parent_view};
-ghost use Rattle.tdb_base.specs.Lines.{mine};
 ghost use Rattle.work_run.specs.Workers.{IsSplitWorker, AreSplitWorkers, AreJoined, Unused};
 
-use crate::lines::count_of;
+use crate::dealt::Dealing;
+use crate::supply::Supply;
 use crate::worker::Worker;
 use pair_rule::{Pass, RootPart};
 use std::alloc::Global;
 use tdb_base::NoMemory;
 use tree_store::TreeStore;
 
-// A worker with this number, with a pass of its own and room for so many replies.
-fn split_worker<R: RootPart<W, F>, const W: u32, const F: u32>(
+// A worker with this number, with a pass of its own and room for so many answers.
+fn split_worker<R: RootPart<W, F>, S: Supply, A: Copy, const W: u32, const F: u32>(
     alloc: Global,
     store: &TreeStore<R, W, F>,
     pass: &mut Pass<R, W, F>,
     number: u64,
+    lines: S,
     room: u64,
-) -> Result<Worker<R::View>, NoMemory>
-    requires { AtRest R.part store.now pass.old }
+) -> Result<Worker<R::View, S, A>, NoMemory>
+    requires rest { AtRest R.part store.now pass.old }
+    requires room { S.giving.left lines ≤ room }
     ensures rest { AtRest R.part store.now pass.new }
-    ensures split { IfOk result (λ worker. IsSplitWorker R.part store.now (view pass.old) number room worker) }
+    ensures split { IfOk result
+        (IsSplitWorker R.part store.now S.giving.left (λ _ s. s ≡ lines) (view pass.old) number) }
     ensures view { OnOk result (view pass.new ≡ parent_view (view pass.old)) }
     ensures pass { OnOk result (pass.new ≡ record pass.old { seat = pass.new.seat }) }
     ensures refused { OnErr result (pass.new ≡ pass.old) }
 {
-    let replies = Vec::with_capacity(alloc, room as usize)?;
+    let answers = Vec::with_capacity(alloc, room as usize)?;
     let pass = store.split(alloc, pass)?;
-    Ok(Worker::new(number, pass, replies))
+    Ok(Worker::new(number, pass, lines, answers))
 }
 
-/// So many workers, each with a pass that is split from this one, and with room for the replies to its lines.
-/// After `NoMemory` the passes that were split are joined back.
-pub(crate) fn split_workers<R: RootPart<W, F>, const W: u32, const F: u32>(
+/// So many workers, each with a pass that is split from this one, the lines that it is dealt, and room for
+/// the answers to them. After `NoMemory` the passes that were split are joined back.
+pub(crate) fn split_workers<R: RootPart<W, F>, P: Dealing, A: Copy, const W: u32, const F: u32>(
     alloc: Global,
     store: &TreeStore<R, W, F>,
     pass: &mut Pass<R, W, F>,
-    lines: u64,
+    dealing: &mut P,
     workers: u64,
-    block: u64,
-) -> Result<Vec<Worker<R::View>>, NoMemory>
+) -> Result<Vec<Worker<R::View, P::Lines, A>>, NoMemory>
     requires rest { AtRest R.part store.now pass.old }
-    requires workers { workers ≤ 64 }
-    requires block { (1 ≤ block) × (block ≤ 65536) }
-    requires lines { lines ≤ 2 ^ 32 }
-    ensures split { IfOk result
-        (λ all_workers. AreSplitWorkers R.part store.now
-        (λ j. length (mine lines workers block j)) pass.old pass.new all_workers.items) }
+    requires first { P.is_next dealing.old 0 }
+    requires workers { P.count dealing.old ≡ workers }
+    requires few { workers ≤ 64 }
+    ensures split { IfOk result (λ all_workers. AreSplitWorkers R.part store.now
+        P.Lines.giving.left (P.begins dealing.old) pass.old pass.new all_workers.items) }
     ensures all { IfOk result (λ all_workers. length all_workers.items ≡ workers) }
     ensures refused { OnErr result (Unused pass.old pass.new) }
     ensures refused_rest { OnErr result (AtRest R.part store.now pass.new) }
 {
     let mut all_workers = Vec::with_capacity(alloc, workers as usize)?;
     for number in 0..workers {
-        let room = count_of(lines, workers, block, number);
-        let Ok(worker) = split_worker(alloc, store, pass, number, room) else {
+        let room = dealing.room(number);
+        let lines = dealing.lines_of(number);
+        let Ok(worker) = split_worker(alloc, store, pass, number, lines, room) else {
             join_workers(store, pass, all_workers);
             return Err(NoMemory);
         };
@@ -67,11 +69,11 @@ pub(crate) fn split_workers<R: RootPart<W, F>, const W: u32, const F: u32>(
     Ok(all_workers)
 }
 
-/// The passes of the workers are joined into the pass, and their replies are dropped.
-pub(crate) fn join_workers<R: RootPart<W, F>, const W: u32, const F: u32>(
+/// The passes of the workers are joined into the pass, and their answers are dropped.
+pub(crate) fn join_workers<R: RootPart<W, F>, S: Drop, A: Copy, const W: u32, const F: u32>(
     store: &TreeStore<R, W, F>,
     pass: &mut Pass<R, W, F>,
-    all_workers: Vec<Worker<R::View>>,
+    all_workers: Vec<Worker<R::View, S, A>>,
 )
     requires rest { AtRest R.part store.now pass.old }
     requires all_workers { All (λ w. AtRest R.part store.now w.pass) all_workers.items }

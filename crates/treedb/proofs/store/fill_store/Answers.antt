@@ -1,10 +1,12 @@
-use Rattle.std.proofs.Common.{◌≡◌, ◌*◌, ◌-◌, ◌≤◌, ℕ, List, length, sym, ap, ◌∙◌, subst, arith, rules, Some}
+use Rattle.std.proofs.Common.{◌≡◌, ◌*◌, ◌-◌, ◌/◌, ◌≤◌, ℕ, List, length, sym, ap, ◌∙◌, subst, arith, rules, Some}
 use Rattle.std.specs.Prelude.{All, IfSome}
 use Rattle.tdb_base.specs.History.{Vector, name_of}
 use Rattle.tdb_base.specs.Renamed.{place_of, renamed}
 use Rattle.tdb_base.specs.declared.reply.Reply.{Reply}
 use Rattle.pair_rule.specs.declared.view.View.{View}
 use Rattle.root_plain.specs.declared.root.Roots.{Roots}
+use Rattle.std.proofs.lemmas.Nat.{mod_below}
+use Rattle.work_run.specs.Owned.{dealt_to}
 use Rattle.work_run.proofs.Few.{few_puts}
 use Rattle.pair_rule.specs.Rest.{view}
 use Rattle.command_line.specs.declared.outcome.Mode.{Mode}
@@ -50,7 +52,7 @@ returns-clause-answered g c =
     let flags_are = about_is.flags in
     let probed = rested.seat.sound.probed in
     let none : (view first).probes ≡ 0 = ap (λ (v : View Roots). v.probes) c.requires.view in
-    let most = few_puts about trace replies choice.workers choice.block in
+    let most = few_puts about trace replies (dealt_to choice.workers choice.block) choice.workers (λ i lt. mod_below (i / choice.block) choice.workers some) in
     let few : length (view last).made ≤ (about.slots - 2) * length trace = omega (arith, probed, ran.probes, none, most) in
     let own = own_agrees choice trace replies store first last some about_is flags_are c.requires.view c.requires.whole rested ran.one_history ran.whole ran.nodes ran.full few in
     let run = history choice trace replies store first last some about_is flags_are c.requires.view c.requires.whole rested ran.one_history ran.whole ran.nodes ran.full few in
