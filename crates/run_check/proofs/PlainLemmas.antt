@@ -1,6 +1,6 @@
 -- What the plain slow functions tell of a line.
-use Rattle.std.proofs.Common.{◌⊎◌, inl, inr, ◌≡◌, ◌<◌, ◌+◌, ◌∙◌, ℕ, List, length, get_or, Option, Some, None, Bool, true, false, ◌||◌, refl, sym, ap, subst, arith, set, cond}
-use Rattle.std.proofs.lemmas.List.{get_or-set_other, get_or-set_same, length-set}
+use Rattle.std.proofs.Common.{◌⊎◌, inl, inr, ◌≡◌, ◌<◌, ◌∙◌, ℕ, List, length, get_or, Option, Some, None, Bool, true, false, ◌||◌, refl, sym, ap, subst, arith, set}
+use Rattle.std.proofs.lemmas.List.{get_or-set_other, length-set}
 use Rattle.std.proofs.lemmas.Option.{slice_get_within}
 use Rattle.std.specs.Bool.{Decides}
 use Rattle.std.specs.Prelude.{◌==◌, ◌↔◌, IsTrue, slice_get}
@@ -13,7 +13,7 @@ use Rattle.run_check.specs.Reached.{Line, Reached, after_new, by_itself, is_seen
 use Rattle.run_check.specs.Sentences.{IsTwice}
 use Rattle.tdb_base.proofs.ListLemmas.{at-within}
 use Rattle.run_check.proofs.ClaimLemmas.{at-get, unseen}
-use Rattle.run_check.proofs.Dealt.{line-reply, line-vector, new-id, seen-id}
+use Rattle.run_check.proofs.Dealt.{line-reply, line-vector, new-id}
 
 -- one line of a trace has one vector
 pub one-vector : (trace : List Vector) (i : ℕ) (v w : Vector) → slice_get trace i ≡ Some v → slice_get trace i ≡ Some w → v ≡ w

@@ -1,8 +1,6 @@
-use Rattle.std.proofs.Common.{◌≡◌, ◌<◌, ℕ, subst, arith, ⊎_elim}
+use Rattle.std.proofs.Common.{◌≡◌, ◌<◌, subst, arith, ⊎_elim}
 use Rattle.std.proofs.lemmas.Option.{slice_get_within}
-use Rattle.std.specs.Prelude.{Option, None, Some}
 use Rattle.tdb_base.proofs.ListLemmas.{before-or-last}
-use Rattle.run_check.specs.Claim.{IsFirst}
 use Rattle.run_check.specs.Sentences.{IsSecond, IsTwice}
 use Rattle.run_check.proofs.PlainLemmas.{first-none}
 use Rattle.run_check.proofs.plain.first_twice.Goals as goal

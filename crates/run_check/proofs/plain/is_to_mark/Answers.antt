@@ -1,5 +1,3 @@
-use Rattle.std.proofs.Common.{◌∙◌, Bool, sym, subst}
-use Rattle.std.specs.Prelude.{◌↔◌, IsTrue}
 use Rattle.run_check.proofs.PlainLemmas.{to-mark-by-new, to-mark-itself}
 use Rattle.run_check.proofs.plain.is_to_mark.Goals as goal
 

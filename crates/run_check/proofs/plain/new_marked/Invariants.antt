@@ -1,4 +1,4 @@
-use Rattle.std.specs.Prelude.{◌≡◌, ◌<◌, ℕ}
+use Rattle.std.specs.Prelude.{◌<◌, ℕ}
 use Rattle.tdb_base.specs.declared.reply.Reply.TheVariants as r
 use Rattle.run_check.specs.Plain.{IsMarked}
 use Rattle.run_check.specs.Reached.{Line}
