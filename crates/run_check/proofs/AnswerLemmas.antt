@@ -58,8 +58,8 @@ either-misses text first second f.Wrong differs other = λ is_first _. by is_fir
     by true = differs
     by false = other
 
-comma-differs : (t : List ℕ) (n : ℕ) (u : List ℕ) → n < 2 ^ 64 → Differs (44 ∷ t) (decimal n ++ u)
-comma-differs t n u fits x y e = comma-first n u (t ++ x) y fits (sym e)
+comma-differs : (t : List ℕ) (n : ℕ) (u : List ℕ) → Differs (44 ∷ t) (decimal n ++ u)
+comma-differs t n u x y e = comma-first n u (t ++ x) y (sym e)
 
 -- a text that begins with a comma, and with neither of the words for a full table
 pub full-misses : (text rest : List ℕ) (fault : Fault) → text ≡ 44 ∷ rest → Misses (one_of (codes ",full-nodes\n") (codes ",full-roots\n")) Always text fault → Misses answer HasWordId text fault
@@ -70,12 +70,12 @@ full-misses text rest f.Short e misses = by misses.0 misses.2
     by false ends = (r.FullRoots, tt, ends)
 full-misses text rest f.Wrong e misses = by
   where
-    other : (n : ℕ) (u : List ℕ) → n < 2 ^ 64 → Differs text (decimal n ++ u)
-    other n u fits x y same = comma-differs rest n u fits x y (ap (λ (t : List ℕ). t ++ x) (sym e) ∙ same)
+    other : (n : ℕ) (u : List ℕ) → Differs text (decimal n ++ u)
+    other n u x y same = comma-differs rest n u x y (ap (λ (t : List ℕ). t ++ x) (sym e) ∙ same)
 
     by : (reply : Reply) → HasWordId reply → Differs text (answer reply)
-    by (r.New n) fits = other n (codes ",new\n") fits
-    by (r.Seen n) fits = other n (codes ",seen\n") fits
+    by (r.New n) fits = other n (codes ",new\n")
+    by (r.Seen n) fits = other n (codes ",seen\n")
     by r.FullNodes fits = misses true tt
     by r.FullRoots fits = misses false tt
 
@@ -124,16 +124,16 @@ named-misses text rest id f.Wrong fits e misses = by
     whole : (x : List ℕ) → text ++ x ≡ decimal id ++ 44 ∷ (rest ++ x)
     whole x = ap (λ (t : List ℕ). t ++ x) e ∙ append_assoc (number_to 44 id) rest x ∙ append_assoc (decimal id) (44 ∷ []) (rest ++ x)
 
-    told : (n : ℕ) (word : List ℕ) → n < 2 ^ 64 → Differs rest word → Differs text (number_to 44 n ++ word)
-    told n word other differs x y same =
-        differs x y (number-cancel id n 44 (rest ++ x) (word ++ y) fits other refl
+    told : (n : ℕ) (word : List ℕ) → Differs rest word → Differs text (number_to 44 n ++ word)
+    told n word differs x y same =
+        differs x y (number-cancel id n 44 (rest ++ x) (word ++ y) fits refl
         (sym (whole x) ∙ same ∙ append_assoc (number_to 44 n) word y ∙ append_assoc (decimal n) (44 ∷ []) (word ++ y))).1
 
     by : (reply : Reply) → HasWordId reply → Differs text (answer reply)
-    by (r.New n) other = differs-same text (answer (r.New n)) (number_to 44 n ++ codes "new\n") (new-word n) (told n (codes "new\n") other (misses true tt))
-    by (r.Seen n) other = differs-same text (answer (r.Seen n)) (number_to 44 n ++ codes "seen\n") (seen-word n) (told n (codes "seen\n") other (misses false tt))
-    by r.FullNodes other = λ x y same. comma-first id (44 ∷ []) (codes "full-nodes\n" ++ y) (rest ++ x) fits (sym (append_assoc (number_to 44 id) rest x) ∙ ap (λ (t : List ℕ). t ++ x) (sym e) ∙ same)
-    by r.FullRoots other = λ x y same. comma-first id (44 ∷ []) (codes "full-roots\n" ++ y) (rest ++ x) fits (sym (append_assoc (number_to 44 id) rest x) ∙ ap (λ (t : List ℕ). t ++ x) (sym e) ∙ same)
+    by (r.New n) other = differs-same text (answer (r.New n)) (number_to 44 n ++ codes "new\n") (new-word n) (told n (codes "new\n") (misses true tt))
+    by (r.Seen n) other = differs-same text (answer (r.Seen n)) (number_to 44 n ++ codes "seen\n") (seen-word n) (told n (codes "seen\n") (misses false tt))
+    by r.FullNodes other = λ x y same. comma-first id (44 ∷ []) (codes "full-nodes\n" ++ y) (rest ++ x) (sym (append_assoc (number_to 44 id) rest x) ∙ ap (λ (t : List ℕ). t ++ x) (sym e) ∙ same)
+    by r.FullRoots other = λ x y same. comma-first id (44 ∷ []) (codes "full-roots\n" ++ y) (rest ++ x) (sym (append_assoc (number_to 44 id) rest x) ∙ ap (λ (t : List ℕ). t ++ x) (sym e) ∙ same)
 
 -- the answer that stands there
 pub full-reads : (text rest : List ℕ) (nodes : Bool) (reply : Reply) → reply ≡ (if nodes then r.FullNodes else r.FullRoots) → text ≡ one_of (codes ",full-nodes\n") (codes ",full-roots\n") nodes ++ rest

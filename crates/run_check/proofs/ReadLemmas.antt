@@ -2,16 +2,16 @@
 use Rattle.std.proofs.Common.{◌⊎◌, inl, inr, ◌≡◌, ◌≤◌, ◌<◌, ◌+◌, ◌^◌, ◌∙◌, ℕ, List, [], ◌∷◌, ◌++◌, length, refl, sym, ap, subst, arith, append_assoc, length-append}
 use Rattle.std.proofs.lemmas.Bool.{cases_lt}
 use Rattle.std.proofs.lemmas.List.Elements.{All-nil, All-push}
-use Rattle.std.specs.Prelude.{IfErr, IfOk, MatchResult, Ok, Err, Result, count_by}
+use Rattle.std.specs.Prelude.{IfErr, IfOk, IfSome, MatchResult, Ok, Option, Err, Result, count_by}
 use Rattle.tdb_base.specs.Replies.{is_new}
 use Rattle.tdb_base.specs.declared.reply.Reply.{Reply}
 use Rattle.trace_csv.proofs.OneReportLemmas.{one-report}
 use Rattle.trace_csv.proofs.ReportLemmas.{lines-append, lines-none, lines-one}
 use Rattle.trace_csv.specs.OneReport.{HasWordId}
-use Rattle.trace_csv.specs.Report.{reply_line, reply_lines, summary_of, summary_text}
+use Rattle.trace_csv.specs.Report.{reply_line, reply_lines, summary_of}
 use Rattle.run_check.specs.Reading.{Misses, wrong_line}
-use Rattle.run_check.specs.Refusal.{AreRead, Refuses}
-use Rattle.run_check.specs.Text.{BeginsReport, IsReportOf, IsSummary, IsWrongAt, text_lines, to_line}
+use Rattle.run_check.specs.Refusal.{AreRead, IsFront, Refuses}
+use Rattle.run_check.specs.Text.{BeginsReport, IsReportOf, IsWrongAt, text_lines, to_line}
 use Rattle.run_check.specs.declared.refusal.ReportError.{ReportError}
 use Rattle.run_check.specs.declared.refusal.ReportError.TheVariants as e
 use Rattle.run_check.specs.declared.word.Fault.{Fault}
@@ -41,28 +41,15 @@ reply-refused lines i bytes text replies error fault few old less is misses =
     let wrong = reply-wrong lines few replies old.fit (omega arith) bytes text old.cut fault here in
     subst (Refuses lines bytes) (sym is) (subst (λ (n : ℕ). IsWrongAt lines bytes (wrong_line (n + 1) text fault)) count wrong)
 
-pub report-read : (lines distinct : ℕ) (bytes text : List ℕ) (replies : List Reply) → AreRead lines bytes replies text → distinct ≡ count_by is_new replies → IsSummary lines distinct text → IsReportOf lines bytes replies
-report-read lines distinct bytes text replies old new summary = record {
-  count = old.count;
-  fit = old.fit;
-  stats = summary.0;
-  stats_fit = summary.1;
-  text = old.cut ∙ ap (λ (t : List ℕ). reply_lines 0 replies ++ t)
-      (summary.2 ∙ ap (λ (n : ℕ). summary_text (record { lines = n; distinct = distinct; stats = summary.0 })) (sym old.count)
-      ∙ ap (λ (n : ℕ). summary_text (record { lines = length replies; distinct = n; stats = summary.0 })) new);
-}
+one-of-bytes : (lines : ℕ) (bytes : List ℕ) (replies others : List Reply) → IsReportOf lines bytes replies → IsReportOf lines bytes others → replies ≡ others
+one-of-bytes lines bytes replies others a b =
+    one-report replies others (summary_of replies a.stats) (summary_of others b.stats) a.fit (sym a.text ∙ b.text)
 
-one-of-bytes : (lines : ℕ) (bytes : List ℕ) (replies others : List Reply) → lines < 2 ^ 64 → IsReportOf lines bytes replies → IsReportOf lines bytes others → replies ≡ others
-one-of-bytes lines bytes replies others few a b =
-    let one = a.count in
-    let other = b.count in
-    one-report replies others (summary_of replies a.stats) (summary_of others b.stats) a.fit b.fit (omega arith) (omega arith) (sym a.text ∙ b.text)
-
-pub only-report : (lines : ℕ) (bytes : List ℕ) {V : Type 0} (items : V → List Reply) (result : Result V ReportError) → lines < 2 ^ 64 → IfOk result (λ v. IsReportOf lines bytes (items v))
+pub only-report : (lines : ℕ) (bytes : List ℕ) {V : Type 0} (items : V → List Reply) (result : Result V ReportError) → IfOk result (λ v. IsReportOf lines bytes (items v))
     → IfErr result (Refuses lines bytes) → (replies : List Reply) → IsReportOf lines bytes replies → MatchResult result (λ v. items v ≡ replies) (λ error. error ≡ e.NoMemory)
-only-report lines bytes items (Ok v) few read refused replies whole = one-of-bytes lines bytes (items v) replies few read whole
-only-report lines bytes items (Err (e.Syntax n)) few read refused replies whole = absurd (refused.none replies whole)
-only-report lines bytes items (Err e.NoMemory) few read refused replies whole = refl
+only-report lines bytes items (Ok v) read refused replies whole = one-of-bytes lines bytes (items v) replies read whole
+only-report lines bytes items (Err (e.Syntax n)) read refused replies whole = absurd (refused.none replies whole)
+only-report lines bytes items (Err e.NoMemory) read refused replies whole = refl
 
 -- one text line alone is the first wrong one
 not-before : (lines : ℕ) (bytes : List ℕ) (n m : ℕ) → IsWrongAt lines bytes n → IsWrongAt lines bytes m → n < m → ⊥
@@ -83,7 +70,19 @@ one-line lines bytes n m one other = by (cases_lt n m) (cases_lt m n)
     by (inr most) (inr least) = omega arith
 
 pub only-line : (lines : ℕ) (bytes : List ℕ) {V : Type 0} (items : V → List Reply) (result : Result V ReportError) → IfOk result (λ v. IsReportOf lines bytes (items v)) → IfErr result (Refuses lines bytes)
-    → (n : ℕ) → IsWrongAt lines bytes n → MatchResult result (λ _. ⊥) (λ error. (error ≡ e.Syntax n) ⊎ (error ≡ e.NoMemory))
-only-line lines bytes items (Ok v) read refused n wrong = wrong.none (items v) read
-only-line lines bytes items (Err (e.Syntax m)) read refused n wrong = inl (ap e.Syntax (one-line lines bytes m n refused wrong))
-only-line lines bytes items (Err e.NoMemory) read refused n wrong = inr refl
+    → (n : ℕ) → IsWrongAt lines bytes n → result ≡ Err (e.Syntax n)
+only-line lines bytes items (Ok v) read refused n wrong = absurd (wrong.none (items v) read)
+only-line lines bytes items (Err (e.Syntax m)) read refused n wrong = ap (λ (k : ℕ). Err (e.Syntax k)) (one-line lines bytes m n refused wrong)
+only-line lines bytes items (Err e.NoMemory) read refused n wrong = absurd (wrong.none refused.0 refused.1)
+
+-- what is read of a front, with one line more
+pub front-more : {V : Type 0} (items : V → List Reply) (i : ℕ) (bytes text rest : List ℕ) (kept next : Option V) (new more : ℕ) (reply : Reply) → IsFront items i bytes kept new text → HasWordId reply
+    → text ≡ reply_line (i + 1) reply ++ rest
+    → ((old : List Reply) → IfSome kept (λ v. items v ≡ old) → IfSome next (λ v. items v ≡ old ++ reply ∷ []))
+    → ((old : List Reply) → new ≡ count_by is_new old → more ≡ count_by is_new (old ++ reply ∷ [])) → IsFront items (i + 1) bytes next more rest
+front-more items i bytes text rest kept next new more reply old fits here pushes counts = record {
+  replies = old.replies ++ reply ∷ [];
+  read = read-more i bytes text rest old.replies reply old.read fits here;
+  new_is = counts old.replies old.new_is;
+  kept_are = pushes old.replies old.kept_are;
+}

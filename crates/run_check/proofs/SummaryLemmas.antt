@@ -10,7 +10,8 @@ use Rattle.tdb_base.specs.declared.reply.Reply.TheVariants as r
 use Rattle.trace_csv.specs.OneReport.{HasWordId}
 use Rattle.trace_csv.specs.Report.{answer, named_line, reply_line, reply_lines, stats_text, summary_of, summary_text}
 use Rattle.trace_csv.specs.declared.report.Stats.{Stats}
-use Rattle.trace_csv.proofs.OneReportLemmas.{decimal-digit, line-cancel, named-cancel}
+use Rattle.trace_csv.proofs.DecimalLemmas.{decimal-digit}
+use Rattle.trace_csv.proofs.OneReportLemmas.{line-cancel, named-cancel}
 use Rattle.run_check.specs.Reading.{Always, IsWord}
 use Rattle.run_check.specs.Text.{FitWords}
 use Rattle.run_check.proofs.LineLemmas.{NoFeed, no-feed-append}
@@ -25,7 +26,7 @@ no-feed-digits (b ∷ xs) digits =
     (ne_eqb b 10 (λ e. omega arith), no-feed-digits xs (λ k lt. digits (suc k) (omega arith)))
 
 no-feed-decimal : (n : ℕ) → n < 2 ^ 64 → NoFeed (decimal n)
-no-feed-decimal n fits = no-feed-digits (decimal n) (λ k lt. decimal-digit n k fits lt)
+no-feed-decimal n fits = no-feed-digits (decimal n) (λ k lt. decimal-digit n k lt)
 
 named-is-line : (name : List ℕ) (n : ℕ) → NoFeed name → n < 2 ^ 64 → IsLine (named_line name n)
 named-is-line name n none fits = record { body = name ++ decimal n; none = no-feed-append name (decimal n) none (no-feed-decimal n fits); whole = refl }
@@ -102,7 +103,7 @@ count-step name T T' none split join y there = record {
   more = λ _ _. (y, there);
   some = (0, omega arith);
   line = λ n fits. named-is-line name n none fits;
-  cancel = λ a b x z one other e. named-cancel name a b x z one other e;
+  cancel = λ a b x z one other e. named-cancel name a b x z one e;
 }
 
 pub lines-step : (lines distinct : ℕ) → lines < 2 ^ 64 → Step {A = Unit {0}} (FromLines lines distinct) (λ _. named_line (codes "lines ") lines) Always (λ _. FromDistinct distinct)
@@ -158,7 +159,7 @@ reply-step lines done less few = record {
   more = more;
   some = (r.FullNodes, tt);
   line = λ reply fits. reply-is-line (length done + 1) reply (omega arith) fits;
-  cancel = λ p q x y one other e. line-cancel (length done + 1) p q x y one other e;
+  cancel = λ p q x y one other e. line-cancel (length done + 1) p q x y one e;
 }
   where
     size : (reply : Reply) → length (done ++ reply ∷ []) ≡ length done + 1

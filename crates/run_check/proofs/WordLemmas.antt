@@ -11,7 +11,7 @@ use Rattle.std.specs.Char.{digit_value, is_ascii_digit}
 use Rattle.std.specs.List.{prefix_len}
 use Rattle.std.specs.Prelude.{◌&&◌, nat_le}
 use Rattle.std.specs.Str.Parse.{AllDigits, digits_value}
-use Rattle.trace_csv.proofs.OneReportLemmas.{decimal-digit}
+use Rattle.trace_csv.proofs.DecimalLemmas.{decimal-digit}
 use Rattle.run_check.specs.Reading.{Differs, EndsWithin, IsCapped, number_to}
 
 cons-same : (b c : ℕ) (x y : List ℕ) → b ∷ x ≡ c ∷ y → (b ≡ c) × (x ≡ y)
@@ -121,7 +121,7 @@ module _ (text x y : List ℕ) (n stop : ℕ) (fits : n < 2 ^ 64) (other : is_as
           → (0 < prefix_len is_ascii_digit text) × (get_or text (prefix_len is_ascii_digit text) 0 ≡ stop)
       by (inl less) =
           let stops = prefix_len_stops is_ascii_digit text 0 within in
-          let digit = decimal-digit n (prefix_len is_ascii_digit text) fits less in
+          let digit = decimal-digit n (prefix_len is_ascii_digit text) less in
           let byte = read (prefix_len is_ascii_digit text) within ∙ get_or_append_left (decimal n) (stop ∷ y) 0 (prefix_len is_ascii_digit text) less in
           absurd (cc (stops, ap is_ascii_digit byte, digit))
       by (inr all) =

@@ -1,6 +1,6 @@
 -- A hash table of lines that are answered new.
 use Rattle.std.specs.Prelude.{◌≡◌, ◌≢◌, ◌<◌, ◌+◌, ◌*◌, ◌%◌, ◌/◌, ◌^◌, ℕ, Bool, true, false, List}
-use Rattle.std.specs.Prelude.{Option, Some, None, length, fold, slice_index, slice_set}
+use Rattle.std.specs.Prelude.{Option, Some, None, bit_xor, length, fold, slice_index, slice_set}
 use Rattle.tdb_base.specs.History.{Vector}
 use Rattle.tdb_base.specs.declared.reply.Reply.{Reply}
 use Rattle.tdb_base.specs.declared.reply.Reply.TheVariants as r
@@ -25,9 +25,14 @@ mixed h x = (h * 0x9E37_79B9_7F4A_7C15 + x) % 2 ^ 64
 unfoldable pub vector_hash : Vector → ℕ
 vector_hash v = fold mixed 0 v
 
--- the high half of a number that is mixed once more, which each of its bits reaches
+-- a number whose low half also has what its high half has
+abbrev pub folded : ℕ → ℕ
+folded h = bit_xor h (h / 2 ^ 32)
+
+-- the high half of a number that is folded and mixed twice, so that all its bits reach it and no multiples of
+-- a number lie in steps
 abbrev pub spread : ℕ → ℕ
-spread h = mixed h 0 / 2 ^ 32
+spread h = mixed (folded (mixed (folded h) 0)) 0 / 2 ^ 32
 
 abbrev pub hash_of : Key → ℕ
 hash_of (k.Vector v) = spread (vector_hash v.now)

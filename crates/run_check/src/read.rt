@@ -1,11 +1,13 @@
 //! A report is read back.
 
-ghost use Rattle.std.specs.Prelude.{◌≡◌, ◌≤◌, ◌<◌, ◌+◌, ◌^◌, ℕ, List, IfErr, IfOk, count_by};
+ghost use Rattle.std.specs.Prelude.{◌≡◌, ◌≤◌, ◌<◌, ◌+◌, ◌^◌, ◌++◌, ◌∷◌, [], ℕ, List, Err, IfErr, IfOk, IfSome};
+ghost use Rattle.std.specs.Prelude.{count_by};
 ghost use Rattle.tdb_base.specs.Replies.{is_new};
 ghost use Rattle.tdb_base.specs.declared.reply.Reply.{Reply};
 ghost use Rattle.trace_csv.specs.OneReport.{HasWordId};
 ghost use Rattle.trace_csv.specs.Report.{reply_line};
-ghost use Rattle.run_check.specs.Refusal.{AreRead, GivesLine, GivesReplies, ReadsLine, Refuses};
+ghost use Rattle.run_check.specs.Refusal.{GivesKept, GivesReplies, IsFront, ReadsLine, Refuses};
+ghost use Rattle.run_check.specs.declared.refusal.ReportError.TheVariants as e;
 ghost use Rattle.run_check.specs.Text.{IsReportOf, IsWrongAt};
 
 use crate::refusal::{ReportError, wrong_line};
@@ -20,13 +22,13 @@ use tdb_base::Reply;
 /// the summary with the counts of these replies, the three counts of a store or none, all numbers of 64 bits
 /// in decimal without leading zeros, and each line with its LF. `Syntax` tells the first text line to whose
 /// end the bytes begin no such report, or the number after the last one where all of them do. `NoMemory` may
-/// come anywhere.
+/// come for the replies of such a report alone, since bytes that are none are judged without memory.
 pub fn read_report(alloc: Global, bytes: &[u8], lines: u64) -> Result<Vec<Reply>, ReportError>
     requires few { lines ≤ 2 ^ 32 }
     ensures read { IfOk result (λ replies. IsReportOf lines bytes.now replies.items) }
     ensures refused { IfErr result (Refuses lines bytes.now) }
     ensures whole { (r : List Reply) → IsReportOf lines bytes.now r → GivesReplies (λ v. v.items) result r }
-    ensures wrong { (n : ℕ) → IsWrongAt lines bytes.now n → GivesLine result n }
+    ensures wrong { (n : ℕ) → IsWrongAt lines bytes.now n → result ≡ Err (e.Syntax n) }
 {
     read(alloc, bytes, lines)
 }
@@ -37,29 +39,61 @@ fn read(alloc: Global, bytes: &[u8], lines: u64) -> Result<Vec<Reply>, ReportErr
     ensures read { IfOk result (λ replies. IsReportOf lines bytes.now replies.items) }
     ensures refused { IfErr result (Refuses lines bytes.now) }
 {
-    let (replies, summary) = read_replies(alloc, bytes, lines)?;
-    read_summary(summary, lines, count_new(&replies))?;
-    Ok(replies)
+    let room = Vec::with_capacity(alloc, lines as usize).ok();
+    let (replies, new, summary) = read_replies(room, bytes, lines)?;
+    read_summary(summary, lines, new)?;
+    kept(replies)
 }
 
-// The replies of so many lines, and what follows these.
-fn read_replies(alloc: Global, bytes: &[u8], lines: u64) -> Result<(Vec<Reply>, &[u8]), ReportError>
+// The replies, if there was memory for them.
+fn kept(replies: Option<Vec<Reply>>) -> Result<Vec<Reply>, ReportError>
+    ensures { GivesKept replies result }
+{
+    match replies {
+        Some(replies) => Ok(replies),
+        None => Err(ReportError::NoMemory),
+    }
+}
+
+// The replies of so many lines, where a list is there for them, how many are new, and what follows them.
+fn read_replies(
+    room: Option<Vec<Reply>>,
+    bytes: &[u8],
+    lines: u64,
+) -> Result<(Option<Vec<Reply>>, u64, &[u8]), ReportError>
     requires few { lines ≤ 2 ^ 32 }
-    ensures read { IfOk result (λ r. AreRead lines bytes.now r.0.items r.1.now) }
+    requires empty { IfSome room (λ v. v.items ≡ []) }
+    ensures read { IfOk result (λ r. IsFront (λ v. v.items) lines bytes.now r.0 r.1 r.2.now) }
     ensures refused { IfErr result (Refuses lines bytes.now) }
 {
-    let Ok(mut replies) = Vec::with_capacity(alloc, lines as usize) else {
-        return Err(ReportError::NoMemory);
-    };
+    let mut replies = room;
+    let mut new = 0;
     let mut text = bytes;
     for i in 0..lines {
         let (reply, rest) = next_reply(text, i + 1)?;
-        if replies.push(reply).is_err() {
-            return Err(ReportError::NoMemory);
-        }
+        replies = with_reply(replies, reply);
+        new = counted(new, reply);
         text = rest;
     }
-    Ok((replies, text))
+    Ok((replies, new, text))
+}
+
+// The replies with one more, where there are any and memory for it.
+fn with_reply(replies: Option<Vec<Reply>>, reply: Reply) -> Option<Vec<Reply>>
+    ensures { (old : List Reply) → IfSome replies (λ v. v.items ≡ old)
+        → IfSome result (λ v. v.items ≡ old ++ reply ∷ []) }
+{
+    let mut all = replies?;
+    all.push(reply).ok()?;
+    Some(all)
+}
+
+// The count of new replies with one reply more.
+fn counted(new: u64, reply: Reply) -> u64
+    requires { new + 1 < 2 ^ 64 }
+    ensures { (old : List Reply) → new ≡ count_by is_new old → result ≡ count_by is_new (old ++ reply ∷ []) }
+{
+    if reply.is_new() { new + 1 } else { new }
 }
 
 // The reply of the text line with this number, and what follows the line.
@@ -71,11 +105,4 @@ fn next_reply(text: &[u8], line: u64) -> Result<(Reply, &[u8]), ReportError>
         Ok(read) => Ok(read),
         Err(fault) => Err(ReportError::Syntax(wrong_line(fault, text, line))),
     }
-}
-
-// How many replies are new.
-fn count_new(replies: &[Reply]) -> u64
-    ensures { result ≡ count_by is_new replies.now }
-{
-    replies.iter().filter(|reply| reply.is_new()).count() as u64
 }

@@ -1,8 +1,8 @@
 //! A hash table of a trace's lines that are answered new, looked up by their vectors or by their identifiers.
 
 ghost use Rattle.std.specs.Prelude.{◌≡◌, ◌<◌, ◌+◌, ◌^◌, ◌↔◌, ℕ, List, IsTrue, IfOk, OnOk, length, replicate};
-ghost use Rattle.run_check.specs.Table.{AreWithin, HasKey, IsFound, PutAt, hash_of, line_at, mixed};
-ghost use Rattle.run_check.specs.Table.{spread, vector_hash};
+ghost use Rattle.run_check.specs.Table.{AreWithin, HasKey, IsFound, PutAt, folded, hash_of, line_at};
+ghost use Rattle.run_check.specs.Table.{mixed, spread, vector_hash};
 
 use std::alloc::Global;
 use std::marker::Model;
@@ -59,11 +59,18 @@ fn mixed(hash: u64, slot: u64) -> u64
     hash.wrapping_mul(0x9E37_79B9_7F4A_7C15).wrapping_add(slot)
 }
 
-// Keys that are multiples of one power of two differ here too, whatever a table's size is.
+// Keys that are multiples of one number lie as at random here, whatever a table's size is: after one
+// multiplication alone they lie in steps, of which some sizes make long chains.
 fn spread(hash: u64) -> u64
     ensures { result ≡ spread hash }
 {
-    mixed(hash, 0) >> 32
+    mixed(folded(mixed(folded(hash), 0)), 0) >> 32
+}
+
+fn folded(hash: u64) -> u64
+    ensures { result ≡ folded hash }
+{
+    hash ^ (hash >> 32)
 }
 
 // Where a key stands in a table.

@@ -1,4 +1,5 @@
 pub mod BytesTaken
+pub mod DecimalLemmas
 pub mod DirectLemmas
 pub mod EachLemmas
 pub mod FewLines

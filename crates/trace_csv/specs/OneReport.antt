@@ -1,5 +1,5 @@
 -- That a report tells its replies.
-use Rattle.std.specs.Prelude.{◌≡◌, ◌<◌, ◌^◌, List, length, All, IfSome}
+use Rattle.std.specs.Prelude.{◌≡◌, ◌<◌, ◌^◌, List, All, IfSome}
 use Rattle.tdb_base.specs.Replies.{id_of}
 use Rattle.tdb_base.specs.declared.reply.Reply.{Reply}
 use Rattle.trace_csv.specs.Report.{report}
@@ -9,9 +9,8 @@ use Rattle.trace_csv.specs.declared.report.Summary.{Summary}
 abbrev pub HasWordId : Reply → Type 0
 HasWordId reply = IfSome (id_of reply) (λ id. id < 2 ^ 64)
 
--- two lists of replies with one report are equal
+-- a report whose identifiers have 64 bits is the report of no other list of replies
 abbrev pub OneReport : Type 0
 OneReport =
-    (replies others : List Reply) (summary other : Summary) → All HasWordId replies → All HasWordId others
-    → length replies < 2 ^ 64 → length others < 2 ^ 64 → report replies summary ≡ report others other
-    → replies ≡ others
+    (replies others : List Reply) (summary other : Summary) → All HasWordId replies
+    → report replies summary ≡ report others other → replies ≡ others

@@ -2,7 +2,8 @@
 
 ghost use Rattle.trace_csv.specs.OneReport.{OneReport};
 
-/// Two lists of replies with one report are equal, whatever their summaries, where numbers have 64 bits.
+/// Two lists of replies with one report are equal, whatever their summaries and however large the numbers of
+/// one of them, where the identifiers of the other have 64 bits.
 pub fn one_report_of_replies()
     ensures { OneReport }
 {}

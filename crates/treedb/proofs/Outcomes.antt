@@ -184,8 +184,8 @@ any_full (x ∷ replies) = by (is_full x) refl (any_full replies)
         (λ z. rw t (rest.0 (omega (arith, z, same))), λ n e. rw t (rest.1 n (omega (arith, e, same))))
 
 -- the report of some replies is that of no others
-pub tells_only : (replies : List Reply) (stats : Option Stats) → All HasWordId replies → length replies < 2 ^ 64 → TellsOnly Insert replies (report replies (summary_of replies stats))
-tells_only replies stats fit few others summary fits less same = sym (one-report replies others (summary_of replies stats) summary fit fits few less same)
+pub tells_only : (replies : List Reply) (stats : Option Stats) → All HasWordId replies → TellsOnly Insert replies (report replies (summary_of replies stats))
+tells_only replies stats fit others summary same = sym (one-report replies others (summary_of replies stats) summary fit same)
 
 -- the run of some lines that were read or drawn
 pub record HasLines (c : Choice) (told : Option (List ℕ)) (trace : List Vector) (replies : List Reply) (stats : Option Stats) (history : History) : Type 0 where

@@ -1,5 +1,5 @@
 -- What a run of the program leaves behind.
-use Rattle.std.specs.Prelude.{◌≡◌, ◌≢◌, ◌<◌, ◌^◌, ◌↔◌, ℕ, Bool, true, false, List, [], All, Option, Some}
+use Rattle.std.specs.Prelude.{◌≡◌, ◌≢◌, ◌<◌, ◌^◌, ◌↔◌, ℕ, Bool, true, false, List, [], Option, Some}
 use Rattle.std.specs.Prelude.{None, length, ⊤}
 use Rattle.std.specs.Io.KnownBytes.{Consumes, Appends}
 use Rattle.std.specs.List.{list_any, range_with_len}
@@ -14,7 +14,6 @@ use Rattle.tdb_base.specs.declared.reply.Reply.{Reply}
 use Rattle.tdb_base.specs.declared.reply.Status.{Status}
 use Rattle.tdb_base.specs.declared.reply.Status.TheVariants as s
 use Rattle.trace_csv.specs.Input.{limit}
-use Rattle.trace_csv.specs.OneReport.{HasWordId}
 use Rattle.trace_csv.specs.Output.{TakesFront}
 use Rattle.trace_csv.specs.Report.{report, summary_of, summary_text}
 use Rattle.trace_csv.specs.Sorted.{IsSortedText}
@@ -91,8 +90,8 @@ IsText Check replies h stats text = ⊥
 
 -- where the text is a report, it is that of no other replies
 abbrev pub TellsOnly : Job → List Reply → List ℕ → Type 0
-TellsOnly Insert replies text = (others : List Reply) (summary : Summary) → All HasWordId others
-    → length others < 2 ^ 64 → text ≡ report others summary → others ≡ replies
+TellsOnly Insert replies text = (others : List Reply) (summary : Summary) → text ≡ report others summary
+    → others ≡ replies
 TellsOnly Distinct replies text = ⊤
 TellsOnly Bench replies text = ⊤
 TellsOnly Check replies text = ⊤

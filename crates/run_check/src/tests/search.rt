@@ -1,6 +1,7 @@
-//! Every report of at most four lines over two vectors and two identifiers, by one or two workers, against a
-//! search through all orders of the lines.
+//! Every report of at most four lines over two vectors and two identifiers, by one or two workers, against the
+//! plain slow verdict, line and all, and against a search through all orders of the lines.
 
+use crate::plain::verdict;
 use crate::{Verdict, check};
 use std::alloc::{AllocError, Global};
 use std::process::Abort;

@@ -1,4 +1,4 @@
-use Rattle.std.proofs.Common.{refl, subst, sym, ap, arith}
+use Rattle.std.proofs.Common.{refl, subst, sym, ap}
 use Rattle.std.specs.Prelude.{Ok}
 use Rattle.command_line.specs.declared.outcome.Job.{Job}
 use Rattle.trace_csv.specs.Report.{report, summary_of}
@@ -19,7 +19,6 @@ returns g c =
     let replies = a.replies.items in
     let text = report replies (summary_of replies a.stats) in
     let w = rw c.deref.ensures.value at c.write_replies.ensures in
-    let count = answered.agrees.among.one_each in
     written choice _ _ (has_read choice _ _ trace (Ok trace) refl taken.gave (taken.end tt) (ap is_reader job)) trace replies a.stats answered.history
     (record {
       inserts = ap is_check job;
@@ -29,4 +28,4 @@ returns g c =
       of_mode = answered.of_mode;
     })
     text (subst (λ (j : Job). IsText j replies answered.history a.stats text) (sym job) refl) c.write_replies.result w.written
-    (λ calm. subst (λ (j : Job). TellsOnly j replies text) (sym job) (tells_only replies a.stats (w.fit calm) (omega (arith, count, taken.few)))) w.settled w.fault
+    (λ calm. subst (λ (j : Job). TellsOnly j replies text) (sym job) (tells_only replies a.stats (w.fit calm))) w.settled w.fault
