@@ -93,7 +93,7 @@ fn parts_of<const W: u32>(pair: u64) -> (u64, u64)
 ///
 /// `Some` is one call of the table's history, which found that vector. `None` makes no call, and says that no
 /// vector has the identifier in the history that the pass has then seen. It waits for the lock of the root's
-/// region, which it takes once if the number can be a root, and takes no memory.
+/// region, which it takes once; for a number that is no root's it makes no step. It takes no memory.
 pub fn find_id<H: Wait, const W: u32, const F: u32>(
     rt: &H,
     nodes: &Nodes<CompactRoot<W, F>, W, F>,
@@ -101,8 +101,10 @@ pub fn find_id<H: Wait, const W: u32, const F: u32>(
     id: u64,
 ) -> Option<(u64, u64)>
     requires rest { AtRest (compact W F) nodes.now pass.old }
-    ensures { MatchOption result (RootUnknown (compact W F) nodes.now id pass.old pass.new)
+    ensures found { MatchOption result (RootUnknown (compact W F) nodes.now id pass.old pass.new)
         (λ parts. RootFound (compact W F) nodes.now id parts pass.old pass.new) }
+    ensures locked { IsPacked nodes.now.about id → LockedOnce (view pass.old) (view pass.new) }
+    ensures still { (IsPacked nodes.now.about id → ⊥) → pass.new ≡ pass.old }
 {
     let table = nodes.table();
     if !is_packed::<W>(id) {
