@@ -1,18 +1,20 @@
 -- In a store of three slots, a node of two zeros and a slot are a root.
-use Rattle.std.proofs.Common.{◌≡◌, ℕ, ◌^◌, ◌<◌, ◌*◌, ◌+◌, ◌/◌, ◌%◌, List, [], ◌∷◌, Some, sym, subst, arith}
+use Rattle.std.proofs.Common.{◌≡◌, ℕ, ◌^◌, ◌<◌, ◌*◌, ◌+◌, ◌/◌, ◌%◌, List, [], ◌∷◌, Bool, Some, sym, subst, arith}
 use Rattle.std.proofs.lemmas.Nat.{shr_high, mod_low, pow_pos}
 use Rattle.tree_shape.specs.Tree.{Has, RootStands, Stands, left_part, right_part, slot, node}
 use Rattle.packed_word.specs.Word.{pair_of}
 use Rattle.pair_rule.specs.declared.sizes.About.{About}
-use Rattle.pair_rule.specs.Calls.{IsSomeRoot}
+use Rattle.pair_rule.specs.Calls.{call, IsSomeRoot}
 use Rattle.tdb_base.specs.History.{Vector, Act, name_of}
 use Rattle.tdb_base.specs.Legal.{Extends}
-use Rattle.tdb_base.proofs.NameLemmas.{keeps-names}
+use Rattle.tdb_base.proofs.NameLemmas.{entry-named, keeps-names}
 use Rattle.pair_rule.specs.declared.pass.PassOf.{PassOf}
 use Rattle.pair_rule.specs.Part.{Store}
 use Rattle.pair_rule.specs.Rest.{view}
 use Rattle.pair_rule.proofs.Histories.{extends_trans}
 use Rattle.region_root.specs.declared.root.Regions.{Regions}
+use Rattle.pair_nodes.specs.Roots.{RootPut}
+use Rattle.region_root.specs.Compact.{compact}
 use Rattle.region_root.specs.Plays.{deed}
 use Rattle.region_root.specs.Told.{Acted}
 
@@ -35,6 +37,12 @@ three_slots about index right known three small has = (right ∷ 0 ∷ 0 ∷ [],
 
 pub wide : {width : ℕ} → width ≡ 16 → (n : ℕ) → n < 2 ^ 16 → n < 2 ^ width
 wide is n below = subst (λ (w : ℕ). n < 2 ^ w) (sym is) below
+
+-- a put gives its root's vector a name
+pub put_named : (store : Store) (pair id : ℕ) (fresh : Bool) (p q : PassOf Regions) → RootPut (compact 16 8) store pair id fresh p q → IsSomeRoot store.about (view p).known pair → (vector : Vector) × (name_of (view q).seen vector ≡ Some id)
+put_named store pair id fresh p q put some =
+    let k = put.entry some.0 some.1 some.2 in
+    (some.0, entry-named (view q).about.flags (view q).seen k.log [] (call (view p).number fresh some.0 id) k.sound.legal k.seen)
 
 -- a call on flags leaves its vector's name
 pub still_named : (store : Store) (act : Act) (id : ℕ) (p q : PassOf Regions) → Acted 16 8 store act id p q → (vector : Vector) × (name_of (view p).seen vector ≡ Some id) → (vector : Vector) × (name_of (view q).seen vector ≡ Some id)

@@ -7,3 +7,4 @@ pub mod Plays
 pub mod Work
 pub mod Reached
 pub mod Told
+pub mod Refused

@@ -11,6 +11,7 @@ mod plays;
 mod put;
 mod root;
 mod steps;
+mod table;
 mod words;
 
 pub use find::{find_id, root_pair};
@@ -18,6 +19,7 @@ pub use flag::{clear_flag, flags, set_flag};
 pub use peek::{Peek, peek_root};
 pub use put::put_root;
 pub use root::{CompactRoot, Holding, Reading, Regions};
+pub use table::CompactTable;
 
 #[cfg(test)]
 mod tests;

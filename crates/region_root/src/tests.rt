@@ -9,6 +9,7 @@ ghost use Rattle.pair_rule.specs.Rest.{AtRest, view};
 ghost use Rattle.region_root.specs.Compact.{compact};
 
 mod crowd;
+mod door;
 
 use crate::steps::next_even;
 use crate::{
@@ -45,7 +46,7 @@ pub(crate) fn store(alloc: Global, roots: u32) -> Result<(Store, StorePass), NoM
 }
 
 // The node of two zeros.
-fn zeros(store: &Store, pass: &mut StorePass) -> Option<u64>
+pub(crate) fn zeros(store: &Store, pass: &mut StorePass) -> Option<u64>
     requires width { store.now.about.width ≡ 16 }
     requires rest { AtRest (compact 16 8) store.now pass.old }
     ensures rest { AtRest (compact 16 8) store.now pass.new }

@@ -67,6 +67,21 @@ pub(crate) fn count_words<const W: u32, const F: u32>(sizes: &Sizes) -> usize
     region.words()
 }
 
+// How many bytes the cells of so many roots take, rounded up once.
+#[inline]
+pub(crate) fn root_bytes<const W: u32, const F: u32>(
+    table: &PairTable<CompactRoot<W, F>, W, F>,
+    roots: u64,
+) -> u64
+    requires { roots ≤ 16777216 }
+    ensures all { result ≡ (compact W F).bytes table.now.about roots }
+    ensures most { result ≤ 8 * roots }
+{
+    let sizes = table.sizes();
+    let bits = 3 + F + (2 * W - sizes.roots);
+    (roots * u64::from(bits) + 7) / 8
+}
+
 // The first root word of the table.
 #[inline]
 fn first_word(nodes: u32) -> usize
