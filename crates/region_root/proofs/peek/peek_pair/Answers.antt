@@ -1,4 +1,4 @@
-use Rattle.std.proofs.Common.{arith, refl, ap, subst}
+use Rattle.std.proofs.Common.{arith, true, false, refl, ap, subst}
 use Rattle.mix_hash.specs.declared.Place.{Place}
 use Rattle.region_root.specs.Plays.{reading}
 use Rattle.region_root.specs.Told.{FindsRoot}
