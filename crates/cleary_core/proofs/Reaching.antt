@@ -1,9 +1,13 @@
 -- What agrees with all that was found agrees with what was found before.
-use Rattle.std.proofs.Common.{◌≡◌, ◌⊎◌, ℕ, suc, ◌+◌, ◌*◌, ◌/◌, ◌%◌, ◌<◌, ◌≤◌, List, inl, inr, ⊎_elim, arith, sym, subst}
+use Rattle.std.proofs.Common.{◌≡◌, ◌⊎◌, ℕ, suc, ◌+◌, ◌-◌, ◌*◌, ◌/◌, ◌%◌, ◌<◌, ◌≤◌, List, Some, min, max, inl, inr, ⊎_elim, arith, sym, subst}
 use Rattle.std.proofs.Math.Nat.{mul-le-mul_right}
+use Rattle.std.proofs.lemmas.Bool.{cases_lt}
+use Rattle.cleary_core.specs.declared.cells.Cell.{Cell}
 use Rattle.cleary_core.specs.declared.cells.Sizes.{Sizes}
 use Rattle.cleary_core.specs.Access.{HasReached, HasCells, Reaches}
 use Rattle.cleary_core.specs.Cells.{width}
+use Rattle.cleary_core.specs.Map.{Key, Keeps}
+use Rattle.cleary_core.specs.Search.{ReachesRun}
 
 pub earlier : (before after : ℕ → ℕ → Type 0) (words : List ℕ) → ((i m : ℕ) → before i m → after i m) → HasReached after words → HasReached before words
 earlier before after words more agrees = λ i m h. agrees i m (more i m h)
@@ -45,3 +49,29 @@ second_word z i at p e f h = let g : suc i * width z ≡ i * width z + width z =
 -- what one word added
 pub at_word : (before after : ℕ → ℕ → Type 0) (z : Sizes) (low high p : ℕ) → ((i m : ℕ) → after i m → before i m ⊎ (i ≡ p)) → HasCells z low high p → Reaches before after z low high
 at_word before after z low high p only has = λ i m found. ⊎_elim (λ (old : before i m). inl old) (λ (there : i ≡ p). inr (subst (λ (q : ℕ). HasCells z low high q) (sym there) has)) (only i m found)
+
+-- the cell of a key stands in its home's run, so that a further step there stays in the run
+pub along_run : (first second third : ℕ → ℕ → Type 0) (z : Sizes) (cells : ℕ → Cell) (keys : List Key) (k : Keeps z.cells cells keys) (home at : ℕ) (key : Key) → k.slots at ≡ Some key → key.home ≡ home
+    → ReachesRun first second z cells home → Reaches second third z at (suc at) → ReachesRun first third z cells home
+along_run first second third z cells keys k home at key there is r more =
+    let inside = k.laid.past at key there in
+    let low = r.span.0 in
+    let high = r.span.1 in
+    let most = r.span.2 in
+    let less : ℕ = min r.low at in
+    let past : ℕ = max r.high (suc at) in
+    record {
+      low = less;
+      high = past;
+      span = (omega arith, omega arith, omega arith);
+      row = λ i a b. ⊎_elim
+          (λ (before : i < r.low). let t = k.laid.run_down at i key there (omega arith) (omega arith) in k.drawn.occupied i t.0 t.1)
+          (λ (from : r.low ≤ i). ⊎_elim
+          (λ (within : i < r.high). r.row i from within)
+          (λ (behind : r.high ≤ i). let t = k.laid.run_up at i key there (omega arith) (omega arith) in k.drawn.occupied i t.0 t.1)
+          (cases_lt i r.high))
+          (cases_lt i r.low);
+      reach = onward first second third z (less - 1) (suc past)
+          (widen first second z (r.low - 1) (suc r.high) (less - 1) (suc past) (omega arith) (omega arith) r.reach)
+          (widen second third z at (suc at) (less - 1) (suc past) (omega arith) (omega arith) more);
+    }

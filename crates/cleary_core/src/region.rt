@@ -176,12 +176,15 @@ impl<const W: u32, const F: u32> Region<W, F> {
         self.flags_in(&mut SliceReader { words }, home, quotient)
     }
 
-    /// `flags` of words that are reached one at a time. As with `find_in`, what it reached decides the
-    /// answer.
+    /// `flags` of words that are reached one at a time: those of the home's run, and of the cell on either
+    /// side of it. As with `find_in`, what it reached decides the answer.
     pub fn flags_in<A: ReadWords>(&self, access: &mut A, home: u64, quotient: u64) -> u64
         requires words { A.spans access.old (word_count self.now) }
         requires home { home < self.now.cells }
         ensures decided { DecidesFlags self.now (A.reached access.new) home quotient result }
+        ensures near { (words : List ℕ) (keys : List Key) → length words ≡ word_count self.now
+            → HasReached (A.reached access.new) words → KeepsMap self.now words keys
+            → ReachesRun (A.reached access.old) (A.reached access.new) self.now (cell_at self.now words) home }
         ensures words { A.spans access.new (word_count self.now) }
         ensures reads { A.reads access.old access.new }
     {
@@ -207,7 +210,8 @@ impl<const W: u32, const F: u32> Region<W, F> {
         self.set_flags_in(&mut SliceWriter { words }, home, quotient, value)
     }
 
-    /// `set_flags` of words that are reached one at a time.
+    /// `set_flags` of words that are reached one at a time: those of the home's run, and of the cell on
+    /// either side of it. It puts only words that change.
     pub fn set_flags_in<A: WriteWords>(&self, access: &mut A, home: u64, quotient: u64, value: u64)
         requires words { A.spans access.old (word_count self.now) }
         requires home { home < self.now.cells }
@@ -217,6 +221,8 @@ impl<const W: u32, const F: u32> Region<W, F> {
             → KeepsMap self.now (A.words access.new) (flagged home quotient value keys) }
         ensures others { OnlyFlags (cell_at self.now (A.words access.old))
             (cell_at self.now (A.words access.new)) }
+        ensures near { ReachesRun (A.reached access.old) (A.reached access.new) self.now
+            (cell_at self.now (A.words access.old)) home }
         ensures absent { StayWithout self.now (A.words access.old) (A.words access.new) home quotient }
         ensures kept { (keys : List Key) × KeepsMap self.now (A.words access.new) keys }
         ensures words { A.spans access.new (word_count self.now) }

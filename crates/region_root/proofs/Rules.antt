@@ -37,6 +37,7 @@ viewed_lock : (about : About) (log log' : History) (ws : List ℕ) (g n : ℕ) (
     → Moves (lock_of ws g) n → ((h : Holding) → Has h u.root.held → h.region ≢ g) → Viewed about log ws u → Viewed about log' (set ws g n) u
 viewed_lock about log log' ws g n u inside long maps moves other r = record {
   idle = r.idle;
+  one = r.one;
   holds = λ h a. held_lock about log log' ws g n h inside (other h a) (maps h.region h.base (other h a) (r.holds h a).base_is) (r.holds h a);
   reads = λ q a. reads_lock about ws g n q inside long moves (r.reads q a);
 }
@@ -63,6 +64,7 @@ takes_root about log ws views id v g n p e none inside lock even f =
       each = λ j u q. ⊎_elim
           (λ (t : (j ≡ id) × (w ≡ u)). subst (Viewed about log (set ws g (suc n))) t.1 record {
             idle = λ b. absurd (true≢false b);
+            one = omega arith;
             holds = λ i a. ⊎_elim (λ (z : i ≡ h). subst (Holds about log (set ws g (suc n))) (sym z) record {
               inside = inside;
               lock_is = get_or-set_same ws g (suc n) 0 long;
@@ -104,6 +106,7 @@ frees_root about log log' ws views id v w h n next p e holds even goes keep here
       each = λ j u q. ⊎_elim
           (λ (t : (j ≡ id) × (w ≡ u)). subst (Viewed about log' (set ws g n)) t.1 record {
             idle = λ b. none;
+            one = subst (λ (l : List Holding). length l ≤ 1) (sym none) (omega arith);
             holds = λ i a. absurd (subst (Has i) none a);
             reads = λ q' a. reads_lock about ws g n q' hv.inside long moves (rv.reads q' (subst (λ (t : Regions). Has q' t.reader) root a));
           })
@@ -137,6 +140,7 @@ stores_root about log ws views id v h i n p e holds busy near =
       each = λ j u q. ⊎_elim
           (λ (t : (j ≡ id) × (w ≡ u)). subst (Viewed about log ws') t.1 record {
             idle = λ b. absurd (true≢false (sym busy ∙ b));
+            one = omega arith;
             holds = λ k a. ⊎_elim (λ (z : k ≡ h'). subst (Holds about log ws') (sym z) record {
               inside = hv.inside;
               lock_is = lock_cell about ws g i g n hv.inside ∙ hv.lock_is;
@@ -149,6 +153,7 @@ stores_root about log ws views id v h i n p e holds busy near =
           })
           (λ (t : (j ≢ id) × (get_elem? views j ≡ some u)). let r = p.each j u t.1 in record {
             idle = r.idle;
+            one = r.one;
             holds = λ k a. held_cell about log ws g i n k near (λ z. t.0 (p.locks.sole j id u.root.held (h ∷ []) k h (at_map held_of views j u t.1) at_id a (inl refl) z)) (r.holds k a);
             reads = λ q' a. reads_cell about ws g i n q' near odd (r.reads q' a);
           })
@@ -168,7 +173,7 @@ quiet_root about log log' ws views id v w p e same packed held busy reads =
       free = λ k in_k ek. let o = p.free k in_k ek in record { map = o.map; keeps = o.keeps; is_map = same k o.map o.is_map };
       locks = subst (Locks about ws) (sym (map_same held_of views id v w e held)) p.locks;
       each = λ j u q. ⊎_elim
-          (λ (t : (j ≡ id) × (w ≡ u)). subst (Viewed about log' ws) t.1 record { idle = λ b. held ∙ (p.each id v e).idle (sym busy ∙ b); holds = λ h a. on h ((p.each id v e).holds h (subst (Has h) held a)); reads = reads })
-          (λ (t : (j ≢ id) × (get_elem? views j ≡ some u)). let r = p.each j u t.1 in record { idle = r.idle; holds = λ h a. on h (r.holds h a); reads = r.reads })
+          (λ (t : (j ≡ id) × (w ≡ u)). subst (Viewed about log' ws) t.1 record { idle = λ b. held ∙ (p.each id v e).idle (sym busy ∙ b); one = subst (λ (l : List Holding). length l ≤ 1) (sym held) (p.each id v e).one; holds = λ h a. on h ((p.each id v e).holds h (subst (Has h) held a)); reads = reads })
+          (λ (t : (j ≢ id) × (get_elem? views j ≡ some u)). let r = p.each j u t.1 in record { idle = r.idle; one = r.one; holds = λ h a. on h (r.holds h a); reads = r.reads })
           (at_set views id j w u q);
     }

@@ -58,9 +58,10 @@ pub record Reads (about : About) (ws : List ℕ) (q : Reading) : Type 0 where
 abbrev pub held_of : View Regions → List Holding
 held_of v = v.root.held
 
--- what the rule says of one view
+-- what the rule says of one view, which holds at most one region
 pub record Viewed (about : About) (log : History) (ws : List ℕ) (v : View Regions) : Type 0 where
   pub idle : v.busy ≡ false → v.root.held ≡ []
+  pub one : length v.root.held ≤ 1
   pub holds : (h : Holding) → Has h v.root.held → Holds about log ws h
   pub reads : (q : Reading) → Has q v.root.reader → Reads about ws q
 

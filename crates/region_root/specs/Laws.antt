@@ -54,6 +54,7 @@ same_viewed : (about : About) (log : History) (ws : List ℕ) (u v : V) → View
     → v.root ≡ u.root → v.busy ≡ u.busy → Viewed about log ws v
 same_viewed about log ws u v r root busy = record {
   idle = λ b. ap (λ (t : Regions). t.held) root ∙ r.idle (sym busy ∙ b);
+  one = subst (λ (t : Regions). length t.held ≤ 1) (sym root) r.one;
   holds = λ h a. r.holds h (subst (λ (t : Regions). Has h t.held) root a);
   reads = λ q a. r.reads q (subst (λ (t : Regions). Has q t.reader) root a);
 }
@@ -63,6 +64,7 @@ blank_viewed : (about : About) (log : History) (ws : List ℕ) (v : V) → v.roo
     → Viewed about log ws v
 blank_viewed about log ws v is = record {
   idle = λ b. ap (λ (t : Regions). t.held) is;
+  one = subst (λ (t : Regions). length t.held ≤ 1) (sym is) (omega arith);
   holds = λ h a. absurd (subst (λ (t : Regions). Has h t.held) is a);
   reads = λ q a. absurd (subst (λ (t : Regions). Has q t.reader) is a);
 }

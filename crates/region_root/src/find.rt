@@ -4,7 +4,7 @@ ghost use Rattle.std.specs.Prelude.{MatchBool, MatchOption};
 ghost use Rattle.tree_shape.specs.Tree.{Has};
 ghost use Rattle.packed_word.specs.Word.{pair_of};
 ghost use Rattle.tdb_base.specs.History.{Vector, Put, name_of};
-ghost use Rattle.pair_nodes.specs.Roots.{RootFound, RootUnknown, RootRead, IsUnlooked};
+ghost use Rattle.pair_nodes.specs.Roots.{RootFound, RootUnknown, RootRead};
 ghost use Rattle.pair_rule.specs.Calls.{Called, IsNoName, KeepsBuffers};
 ghost use Rattle.pair_rule.specs.Plays.{Caught};
 ghost use Rattle.pair_rule.specs.Rest.{AtRest, view};
@@ -93,7 +93,7 @@ fn parts_of<const W: u32>(pair: u64) -> (u64, u64)
 ///
 /// `Some` is one call of the table's history, which found that vector. `None` makes no call, and says that no
 /// vector has the identifier in the history that the pass has then seen. It waits for the lock of the root's
-/// region, which it takes once if the number can be a root, and takes no memory.
+/// region, which it takes once; for a number that is no root's it makes no step. It takes no memory.
 pub fn find_id<H: Wait, const W: u32, const F: u32>(
     rt: &H,
     nodes: &Nodes<CompactRoot<W, F>, W, F>,
@@ -103,7 +103,8 @@ pub fn find_id<H: Wait, const W: u32, const F: u32>(
     requires rest { AtRest (compact W F) nodes.now pass.old }
     ensures found { MatchOption result (RootUnknown (compact W F) nodes.now id pass.old pass.new)
         (λ parts. RootFound (compact W F) nodes.now id parts pass.old pass.new) }
-    ensures no_look { IsUnlooked (compact W F) (view pass.old).root (view pass.new).root }
+    ensures locked { IsPacked nodes.now.about id → LockedOnce (view pass.old).root (view pass.new).root }
+    ensures still { (IsPacked nodes.now.about id → ⊥) → pass.new ≡ pass.old }
 {
     let table = nodes.table();
     if !is_packed::<W>(id) {

@@ -4,10 +4,12 @@ use Rattle.cleary_core.specs.Cells.{cell_at, word_count}
 use Rattle.cleary_core.specs.Answers.{StayWithout, flagged}
 use Rattle.cleary_core.specs.Change.{OnlyFlags}
 use Rattle.cleary_core.specs.Map.{Key, KeepsMap}
+use Rattle.cleary_core.specs.Search.{ReachesRun}
 use Rattle.cleary_core.specs.declared.cells.Cell.{Cell}
 use Rattle.cleary_core.specs.declared.cells.Sizes.{Sizes}
 use Rattle.cleary_core.proofs.Flags.{keeps_flags, flagged_absent}
 use Rattle.cleary_core.proofs.Placing.{found_here}
+use Rattle.cleary_core.proofs.Reaching.{along_run}
 use Rattle.cleary_core.proofs.region.Region.set_flags_in.Goals as goal
 
 pub returns-in_default-clause-flagged : goal.returns-in_default-clause-flagged
@@ -80,3 +82,26 @@ returns-clause-absent g c =
           let agrees : HasReached (g.A.ReadWords.reached c.locate.new.access) old = subst (λ (w : List ℕ). HasReached (g.A.ReadWords.reached c.locate.new.access) w) same (g.met.A.WriteWords.stands c.locate.new.access (word_count z) c.locate.ensures.words).1 in
           absurd (absent (found_here z.cells (cell_at z old) keys k c.args.home c.args.quotient c.in-Some.at (c.in-Some.ensures.found old keys agrees k)));
     }
+
+pub returns-in_default-clause-near : goal.returns-in_default-clause-near
+returns-in_default-clause-near g c =
+    let old : List ℕ = g.A.WriteWords.words c.args.access.now in
+    let same = (g.met.A.WriteWords.same c.args.access.now c.locate.new.access c.locate.ensures.reads).0 in
+    let agrees : HasReached (g.A.ReadWords.reached c.locate.new.access) old = subst (λ (w : List ℕ). HasReached (g.A.ReadWords.reached c.locate.new.access) w) same (g.met.A.WriteWords.stands c.locate.new.access (word_count c.self.inside.sizes) c.locate.ensures.words).1 in
+    let kept = subst (λ (z : Sizes). (keys : List Key) × KeepsMap z old keys) (sym c.self.view_is) c.requires.kept in
+    subst (λ (z : Sizes). ReachesRun (g.A.ReadWords.reached c.args.access.now) (g.A.ReadWords.reached c.locate.new.access) z (cell_at z old) c.args.home) c.self.view_is
+    (c.in_default.ensures.near old kept.0 agrees kept.1)
+
+pub returns-clause-near : goal.returns-clause-near
+returns-clause-near g c =
+    let z : Sizes = c.self.inside.sizes in
+    let old : List ℕ = g.A.WriteWords.words c.args.access.now in
+    let cells : ℕ → Cell = cell_at z old in
+    let same = (g.met.A.WriteWords.same c.args.access.now c.locate.new.access c.locate.ensures.reads).0 in
+    let agrees : HasReached (g.A.ReadWords.reached c.locate.new.access) old = subst (λ (w : List ℕ). HasReached (g.A.ReadWords.reached c.locate.new.access) w) same (g.met.A.WriteWords.stands c.locate.new.access (word_count z) c.locate.ensures.words).1 in
+    let kept = subst (λ (y : Sizes). (keys : List Key) × KeepsMap y old keys) (sym c.self.view_is) c.requires.kept in
+    let f = c.in-Some.ensures.found old kept.0 agrees kept.1 in
+    let read = along_run (g.A.ReadWords.reached c.args.access.now) (g.A.ReadWords.reached c.locate.new.access) (g.A.ReadWords.reached c.own_cell-here.new.access) z cells kept.0 kept.1 c.args.home c.in-Some.at f.0 f.1 f.2
+    (c.in-Some.ensures.near old kept.0 agrees kept.1) c.own_cell-here.ensures.near in
+    subst (λ (y : Sizes). ReachesRun (g.A.ReadWords.reached c.args.access.now) (g.A.ReadWords.reached c.write_cell.new.access) y (cell_at y old) c.args.home) c.self.view_is
+    (along_run (g.A.ReadWords.reached c.args.access.now) (g.A.ReadWords.reached c.own_cell-here.new.access) (g.A.ReadWords.reached c.write_cell.new.access) z cells kept.0 kept.1 c.args.home c.in-Some.at f.0 f.1 f.2 read c.write_cell.ensures.near)
