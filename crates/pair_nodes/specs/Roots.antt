@@ -1,5 +1,5 @@
 -- What the calls on a store's roots leave of a pass, whatever its root table is.
-use Rattle.std.specs.Prelude.{◌≡◌, ℕ, ◌^◌, ◌<◌, [], ◌∷◌, Bool, true, false, Option, None, length}
+use Rattle.std.specs.Prelude.{◌≡◌, ℕ, ◌^◌, ◌<◌, [], ◌∷◌, Bool, true, false, Option, None, length, ◌⊎◌}
 use Rattle.std.specs.Prelude.{option_map, ◌≤◌}
 use Rattle.tdb_base.specs.Fakes.{counted}
 use Rattle.packed_word.specs.Word.{pair_of}
@@ -66,6 +66,19 @@ module _ {T : Type 0} (part : Part T) (store : Store) where
     pub root : Has (id, pair_in store parts) (root_pairs part (view old))
     pub no_call : Caught part [] (view old) (view new)
     pub buffers : new ≡ record old { seat = new.seat }
+
+-- How an answer about a root pair came, by what a pass knows of its root table before and after: by one look
+-- that did not find the pair's name, and then one call that put the pair; or else by one look that found it.
+module _ {T : Type 0} (part : Part T) (about : About) (pair : ℕ) where
+  abbrev pub IsPutAfterLook : T → T → Type 0
+  IsPutAfterLook t u = (middle : T) × part.after_look about pair false t middle × part.after_call middle u
+
+  abbrev pub IsFoundOrPut : Bool → T → T → Type 0
+  IsFoundOrPut fresh t u = ((fresh ≡ false) × part.after_look about pair true t u) ⊎ IsPutAfterLook t u
+
+-- no look was made: what the pass knows of its root table is as it was, or as after one call
+abbrev pub IsUnlooked : {T : Type 0} → Part T → T → T → Type 0
+IsUnlooked part t u = (u ≡ t) ⊎ part.after_call t u
 
 -- a step was counted, or none
 abbrev pub ticked_if : Bool → Option ℕ → Option ℕ

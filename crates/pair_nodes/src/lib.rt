@@ -8,7 +8,7 @@ mod roots;
 mod steps;
 
 pub use nodes::Nodes;
-pub use roots::{RootTable, look_or_put};
+pub use roots::{RootNames, RootTable, look_or_put};
 
 #[cfg(test)]
 mod tests;

@@ -1,5 +1,5 @@
 -- A table without roots: there are no root pairs, nothing is asked of how they lie, and nobody called.
-use Rattle.std.specs.Prelude.{◌≡◌, [], ◌∷◌, ◌++◌}
+use Rattle.std.specs.Prelude.{◌≡◌, [], ◌∷◌, ◌++◌, false}
 use Rattle.std.proofs.Common.{refl, sym, ◌∙◌}
 use Rattle.tdb_base.specs.History.{History}
 use Rattle.tdb_base.specs.Legal.{Extends}
@@ -17,6 +17,8 @@ no_roots = record {
   sound = λ about v. v.seen ≡ [];
   split = λ t. t;
   join = λ t u. t;
+  after_look = λ about pair found t u. found ≡ false;
+  after_call = λ t u. Unit {0};
 }
 
 nothing_before : (h more : History) → [] ≡ h ++ more → h ≡ []

@@ -1,5 +1,5 @@
 -- What contracts see of a store, and what its root table gives them.
-use Rattle.std.specs.Prelude.{◌≡◌, ℕ, suc, ◌+◌, List}
+use Rattle.std.specs.Prelude.{◌≡◌, ℕ, suc, ◌+◌, List, Bool}
 use Rattle.atomic_table.specs.Seated.{TableId}
 use Rattle.tdb_base.specs.History.{History}
 use Rattle.pair_rule.specs.declared.view.View.{View}
@@ -33,6 +33,10 @@ pub record Part (T : Type 0) : Type 1 where
   -- what a pass has that is split from one, and what two passes know as one
   pub split : T → T
   pub join : T → T → T
+  -- what becomes of it by one look for a root pair, which found the pair's name or not, and by one call that
+  -- put a pair or looked for an identifier
+  pub after_look : About → ℕ → Bool → T → T → Type 0
+  pub after_call : T → T → Type 0
 
 -- the root pairs that a view knows
 abbrev pub root_pairs : {T : Type 0} → Part T → View T → List (ℕ × ℕ)

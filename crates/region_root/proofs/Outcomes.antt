@@ -20,10 +20,10 @@ use Rattle.region_root.specs.declared.root.Regions.{Regions}
 use Rattle.region_root.specs.declared.root.Holding.{Holding}
 use Rattle.region_root.specs.Layout.{region_of, IsPacked, KeepsRoots}
 use Rattle.region_root.specs.Maps.{roots_of, IsMapOf, IsFull}
-use Rattle.region_root.specs.Compact.{compact}
+use Rattle.region_root.specs.Compact.{LockedOnce, compact}
 use Rattle.region_root.specs.Names.{are_names}
 use Rattle.region_root.specs.Plays.{part_of, Ending, deed, Told}
-use Rattle.region_root.specs.Told.{HasNoPlace, LockedOnce, Acted, flag_act}
+use Rattle.region_root.specs.Told.{HasNoPlace, Acted, flag_act}
 use Rattle.region_root.specs.Work.{Locked}
 use Rattle.region_root.proofs.Keys.{different, root_in}
 use Rattle.region_root.proofs.Resting.{mark, one_name, caught_for, caught_as}
@@ -88,7 +88,7 @@ module _ (width flags : ℕ) (store : Store) (is : IsTable width flags (compact 
   pub all_buffers : KeepsBuffers p q
   all_buffers = buffers ∙ ap (λ (z : PassOf Regions). record z { seat = q.seat; names_count = q.names_count }) l.others
 
-  pub locked_once : (view q).root ≡ record (view u).root { held = [] } → LockedOnce (view p) (view q)
+  pub locked_once : (view q).root ≡ record (view u).root { held = [] } → LockedOnce (view p).root (view q).root
   locked_once root =
       let none : (view p).root.held ≡ [] = rest.seat.sound.root_sound.idle rest.seat.idle in
       root ∙ (ap (λ (v : V). record v.root { held = [] }) l.view_is ∙ ap (λ (h : List Holding). record (view p).root { held = h; locks = suc (view p).root.locks }) (sym none))

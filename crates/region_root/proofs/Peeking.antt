@@ -1,6 +1,6 @@
 -- A look without a lock, from its first look at the lock word to its second.
 use Rattle.std.proofs.Common.{◌≡◌, ◌≢◌, ◌⊎◌, ℕ, suc, ◌<◌, List, [], ◌∷◌, Bool, true, false, Option, Some, None, refl, sym, ap, ◌∙◌, subst, inl, inr, ⊎_elim}
-use Rattle.std.specs.Prelude.{MatchBool}
+use Rattle.std.specs.Prelude.{MatchBool, slice_index}
 use Rattle.tree_shape.specs.Tree.{Has, RootStands, IsPart}
 use Rattle.tree_shape.proofs.Trees.{one_root}
 use Rattle.tdb_base.specs.History.{Vector, Put, name_of}
@@ -18,9 +18,9 @@ use Rattle.region_root.specs.declared.root.Regions.{Regions}
 use Rattle.region_root.specs.declared.root.Reading.{Reading}
 use Rattle.region_root.specs.Layout.{words_each, region_of, KeepsRoots}
 use Rattle.region_root.specs.Maps.{InRegion}
-use Rattle.region_root.specs.Compact.{IsEven, IsOdd, last, compact}
-use Rattle.region_root.specs.Plays.{Told, reading, peeking, reloaded, seconded, Unchanged, Believes, Closed}
-use Rattle.region_root.specs.Told.{FindsRoot, Peeked, RootAbsent, RootChanged}
+use Rattle.region_root.specs.Compact.{IsEven, IsOdd, last, Unchanged, LoadsTell, Looked, compact}
+use Rattle.region_root.specs.Plays.{Told, reading, peeking, reloaded, seconded, Believes, Closed}
+use Rattle.region_root.specs.Told.{FindsRoot, RootAbsent, RootChanged}
 use Rattle.region_root.specs.Work.{HasLoaded, ReadsOn}
 use Rattle.region_root.proofs.Catching.{head_of}
 use Rattle.region_root.proofs.Endings.{stands_of}
@@ -48,8 +48,14 @@ no_vector width flags store p q x r known no_id vector stands = by (name_of (vie
         absurd (no_id vector (t ∙ ap Some one))
 
 -- after the first look
-pub first_peeked : (about : About) (p u : P) (g x n : ℕ) → g ≡ region_of about x → view u ≡ peeking (reading g x n) (view p) → Peeked about x (view p) (view u)
-first_peeked about p u g x n here is = record { reader = reading g x n; root_is = ap (λ (v : V). v.root) is; pair_is = refl; region_is = here }
+pub first_looked : (about : About) (p u : P) (g x n : ℕ) → g ≡ region_of about x → view u ≡ peeking (reading g x n) (view p) → (n ≡ last) ⊎ IsOdd n → Looked about x false (view p).root (view u).root
+first_looked about p u g x n here is why = record {
+  reader = reading g x n;
+  knows = ap (λ (v : V). v.root) is;
+  pair_is = refl;
+  region_is = here;
+  answer = inr (refl, inl (⊎_elim (λ (a : n ≡ last). inr a) (λ (o : IsOdd n). inl o) why));
+}
 
 pub first_changed : (width flags : ℕ) (store : Store) (p u : P) (g x n : ℕ) → AtRest (compact width flags) store u → view u ≡ peeking (reading g x n) (view p) → u ≡ record p { seat = u.seat } → (n ≡ last) ⊎ IsOdd n
     → RootChanged width flags store x p u
@@ -85,9 +91,6 @@ module _ (width flags : ℕ) (store : Store) (is : IsTable width flags (compact 
   root_q : (view q).root ≡ seconded m q2 t_root
   root_q = cl.root_is ∙ ap (λ (v : V). seconded m q2 v.root) t_is
 
-  pub peeked : Peeked store.about x (view p) (view q)
-  peeked = record { reader = record q2 { second = m }; root_is = root_q; pair_is = refl; region_is = here }
-
   reader_q : (view q).root.reader ≡ (record q2 { second = m }) ∷ []
   reader_q = ap (λ (r : Regions). r.reader) root_q
 
@@ -97,7 +100,14 @@ module _ (width flags : ℕ) (store : Store) (is : IsTable width flags (compact 
   buffers : KeepsBuffers p q
   buffers = others ∙ ap (λ (k : ℕ). record p { seat = q.seat; names_count = k }) (sym (ap (λ (z : P). z.names_count) others))
 
+  -- what was loaded is what the reader has
+  loaded_in : (words : List ℕ) → ((i w : ℕ) → Has (i, w) on.0 → slice_index words i ≡ w) → HasReached (HasLoaded t) words
+  loaded_in words at i w h = at i w (subst (λ (r : Reading). Has (i, w) r.loads) (head_of h.0 q2 (view t).root.reader h.1 reader_t) h.2)
+
   -- another value at the second look
+  pub looked_changed : m ≢ n → Looked store.about x false (view p).root (view q).root
+  looked_changed ne = record { reader = record q2 { second = m }; knows = root_q; pair_is = refl; region_is = here; answer = inr (refl, inr ne) }
+
   pub changed : m ≢ n → RootChanged width flags store x p q
   changed ne = record {
     rest = rest_q;
@@ -117,7 +127,16 @@ module _ (width flags : ℕ) (store : Store) (is : IsTable width flags (compact 
     about_t = ap (λ (v : V). v.about) t_is ∙ rest_p.seat.about_is
 
     agrees : HasReached (HasLoaded t) b.words
-    agrees i w h = b.loads_are i w (subst (λ (r : Reading). Has (i, w) r.loads) (head_of h.0 q2 (view t).root.reader h.1 reader_t) h.2)
+    agrees = loaded_in b.words b.loads_are
+
+    pub looked : (found : Bool) → FindsRoot store.about x t found → Looked store.about x found (view p).root (view q).root
+    looked found f = record {
+      reader = record q2 { second = m };
+      knows = root_q;
+      pair_is = refl;
+      region_is = here;
+      answer = inl (record { same = unchanged.same; even = unchanged.even; low = unchanged.low }, λ words map long at keeps inside. f.decides words map long (loaded_in words at) keeps inside);
+    }
 
     decides : (found : Bool) → FindsRoot store.about x t found → MatchBool found ((f : ℕ) × Has (x, f) b.map) ((f : ℕ) → Has (x, f) b.map → ⊥)
     decides found f = f.decides b.words b.map (b.long ∙ ap words_each about_t) agrees (subst (λ (y : About). KeepsRoots y b.words b.map) about_t b.keeps)

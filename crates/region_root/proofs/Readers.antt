@@ -16,9 +16,9 @@ use Rattle.region_root.specs.declared.root.Regions.{Regions}
 use Rattle.region_root.specs.declared.root.Reading.{Reading}
 use Rattle.region_root.specs.Layout.{regions, words_each, lock_of, start, part, KeepsRoots}
 use Rattle.region_root.specs.Maps.{IsMapOf, InRegion}
-use Rattle.region_root.specs.Compact.{IsEven, IsOdd, last, Reads, Free, Compact}
+use Rattle.region_root.specs.Compact.{IsEven, IsOdd, last, Reads, Free, Compact, Unchanged}
 use Rattle.region_root.specs.Laws.{even_or_odd}
-use Rattle.region_root.specs.Plays.{part_of, Ending, MayEnd, reading, peeking, reloaded, seconded, place_in, Believes, Unchanged, Closed, peeks_tells, reads_tells, closes_tells}
+use Rattle.region_root.specs.Plays.{part_of, Ending, MayEnd, reading, peeking, reloaded, seconded, place_in, Believes, Closed, peeks_tells, reads_tells, closes_tells}
 use Rattle.region_root.proofs.Parts.{not_both, part_word, part_long}
 use Rattle.region_root.proofs.Rules.{quiet_root}
 use Rattle.region_root.proofs.Maps.{map_alike}

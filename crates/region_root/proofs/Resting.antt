@@ -18,9 +18,9 @@ use Rattle.region_root.specs.declared.root.Regions.{Regions}
 use Rattle.region_root.specs.declared.root.Holding.{Holding}
 use Rattle.region_root.specs.declared.root.Reading.{Reading}
 use Rattle.region_root.specs.Layout.{regions, words_each, start, KeepsRoots}
-use Rattle.region_root.specs.Compact.{compact, Compact}
+use Rattle.region_root.specs.Compact.{compact, Compact, Unchanged}
 use Rattle.region_root.specs.Laws.{ids_below}
-use Rattle.region_root.specs.Plays.{part_of, Ending, deed, Ends, MayEnd, Told, seconded, place_in, IsNext, Frees, frees_tells, Believes, Unchanged, Closed, peeks_tells, reads_tells, closes_tells}
+use Rattle.region_root.specs.Plays.{part_of, Ending, deed, Ends, MayEnd, Told, seconded, place_in, IsNext, Frees, frees_tells, Believes, Closed, peeks_tells, reads_tells, closes_tells}
 use Rattle.region_root.specs.Work.{released, gives_name, AtWork}
 use Rattle.region_root.proofs.Holders.{frees}
 use Rattle.region_root.proofs.Readers.{peeks, reads, closes, to_believe}

@@ -1,7 +1,8 @@
 -- The rule of a compact root table: a free region's words keep the map of its names; a held one's are the
 -- holder's copy; and a reader may believe what it loaded, where the lock word is still what it was.
 use Rattle.cleary_core.specs.Cells.{width as cell_bits}
-use Rattle.std.specs.Prelude.{◌≡◌, ℕ, suc, ◌+◌, ◌*◌, ◌/◌, ◌<◌, ◌≤◌, List, [], map, length, false, slice_index, Some}
+use Rattle.std.specs.Prelude.{◌≡◌, ◌≢◌, ℕ, suc, ◌+◌, ◌*◌, ◌/◌, ◌<◌, ◌≤◌, ◌⊎◌, List, [], ◌∷◌, map, length, Bool}
+use Rattle.std.specs.Prelude.{false, slice_index, Some, MatchBool}
 use mathlib.Core.Option.{some}
 use lib.ListN.{get_elem?}
 use Rattle.tree_shape.specs.Tree.{Has}
@@ -13,8 +14,9 @@ use Rattle.pair_rule.specs.Part.{Part}
 use Rattle.region_root.specs.declared.root.Regions.{Regions}
 use Rattle.region_root.specs.declared.root.Holding.{Holding}
 use Rattle.region_root.specs.declared.root.Reading.{Reading}
-use Rattle.region_root.specs.Layout.{IsSized, IsOut, cells_of, count, regions, most, lock_of, part, IsPacked, KeepsRoots}
-use Rattle.region_root.specs.Maps.{roots_of, IsMapOf, FewEach, IsFull}
+use Rattle.region_root.specs.Layout.{IsSized, IsOut, cells_of, count, regions, words_each, most, lock_of, part}
+use Rattle.region_root.specs.Layout.{region_of, IsPacked, KeepsRoots}
+use Rattle.region_root.specs.Maps.{roots_of, IsMapOf, InRegion, FewEach, IsFull}
 
 -- A lock word is even where its region is free, and odd where it is held.
 abbrev pub IsEven : ℕ → Type 0
@@ -98,6 +100,39 @@ pub record Housed (about : About) (roots : List (ℕ × ℕ)) : Type 0 where
   pub itself : (id pair : ℕ) → Has (id, pair) roots → (pair ≡ id) × IsPacked about id
   pub few : FewEach about roots
 
+-- The lock word was the same at both looks of a reader: even, and not its last even value. So no other call held
+-- the region between them.
+pub record Unchanged (n : ℕ) (q : Reading) : Type 0 where
+  pub same : n ≡ q.first
+  pub even : IsEven n
+  pub low : n < last
+
+-- It was odd or its last even value at the first look, or another one at the second.
+abbrev pub LockChanged : Reading → Type 0
+LockChanged q = (IsOdd q.first ⊎ (q.first ≡ last)) ⊎ (q.second ≢ q.first)
+
+-- What was loaded decides of the root x: whatever words of its region have it at its places and keep some map,
+-- the answer says whether that map has the root.
+abbrev pub LoadsTell : About → ℕ → List (ℕ × ℕ) → Bool → Type 0
+LoadsTell about x loads answer = (words : List ℕ) (map : List (ℕ × ℕ)) → length words ≡ words_each about
+    → ((i n : ℕ) → Has (i, n) loads → slice_index words i ≡ n) → KeepsRoots about words map
+    → InRegion about (region_of about x) map
+    → MatchBool answer ((flags : ℕ) × Has (x, flags) map) ((flags : ℕ) → Has (x, flags) map → ⊥)
+
+-- One region was read once without its lock, where the root x was wanted. It was found, or found to be absent, by
+-- what was loaded while no other call held the region; or it was not found, since the lock word changed.
+pub record Looked (about : About) (x : ℕ) (found : Bool) (t u : Regions) : Type 0 where
+  pub reader : Reading
+  pub knows : u ≡ record t { reader = reader ∷ []; peeks = suc t.peeks }
+  pub pair_is : reader.pair ≡ x
+  pub region_is : reader.region ≡ region_of about x
+  pub answer : (Unchanged reader.second reader × LoadsTell about x reader.loads found)
+      ⊎ ((found ≡ false) × LockChanged reader)
+
+-- One lock was taken and given back; the reader part is as it was.
+abbrev pub LockedOnce : Regions → Regions → Type 0
+LockedOnce t u = u ≡ record t { locks = suc t.locks }
+
 -- what a compact root table gives to contracts, where a part of a pair has so many bits, and a vector so many
 -- flags
 abbrev pub compact : ℕ → ℕ → Part Regions
@@ -112,4 +147,6 @@ compact width flags = record {
   sound = KnowsRegions;
   split = λ t. nothing;
   join = λ t u. t;
+  after_look = Looked;
+  after_call = LockedOnce;
 }

@@ -15,7 +15,7 @@ use Rattle.region_root.specs.declared.root.Holding.{Holding}
 use Rattle.region_root.specs.declared.root.Reading.{Reading}
 use Rattle.region_root.specs.Layout.{words_each, start, region_of, IsPacked, KeepsRoots}
 use Rattle.region_root.specs.Maps.{IsMapOf, Acts, InRegion}
-use Rattle.region_root.specs.Compact.{IsEven, last, compact}
+use Rattle.region_root.specs.Compact.{IsEven, last, Unchanged, compact}
 
 -- the root part of a table that is about this
 abbrev pub part_of : About → Part Regions
@@ -105,12 +105,6 @@ pub record Believes (q : Reading) (v w : View Regions) : Type 0 where
   pub answer :
       (((flags : ℕ) → Has (q.pair, flags) map → ⊥) × Told q.region map None v w)
       ⊎ (((flags : ℕ) × Has (q.pair, flags) map) × Told q.region map (Some (q.pair, Put false)) v w)
-
--- the second look found n, which is to be believed
-pub record Unchanged (n : ℕ) (q : Reading) : Type 0 where
-  pub same : n ≡ q.first
-  pub even : IsEven n
-  pub low : n < last
 
 -- what the second look tells
 pub record Closed (n : ℕ) (q : Reading) (v w : View Regions) : Type 0 where

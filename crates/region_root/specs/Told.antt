@@ -21,8 +21,8 @@ use Rattle.region_root.specs.declared.root.Holding.{Holding}
 use Rattle.region_root.specs.declared.root.Reading.{Reading}
 use Rattle.region_root.specs.Layout.{words_each, most, region_of, KeepsRoots}
 use Rattle.region_root.specs.Maps.{InRegion}
-use Rattle.region_root.specs.Compact.{IsOdd, last, compact}
-use Rattle.region_root.specs.Plays.{Told, Unchanged, deed}
+use Rattle.region_root.specs.Compact.{Unchanged, LockChanged, LockedOnce, compact}
+use Rattle.region_root.specs.Plays.{Told, deed}
 use Rattle.region_root.specs.Work.{HasLoaded}
 
 -- every cell of the region g has another root than x: the call ended with no call of the history
@@ -38,23 +38,12 @@ abbrev pub PutTold : About → ℕ → Result Bool RootsFull → Holding → Vie
 PutTold about x result h v w = MatchResult result (λ fresh. Told h.region h.base (Some (x, Put fresh)) v w)
     (λ _. HasNoPlace about x h.region h.base v w)
 
--- the pass took one lock and gave it back; its reader part is as it was
-abbrev pub LockedOnce : View Regions → View Regions → Type 0
-LockedOnce v w = w.root ≡ record v.root { locks = suc v.root.locks }
-
 -- what was reached decides of the root x: whatever words of its region agree with it and keep some map, the
 -- answer says whether that map has the root
 pub record FindsRoot (about : About) (x : ℕ) (p : PassOf Regions) (answer : Bool) : Type 0 where
   pub decides : (words : List ℕ) (map : List (ℕ × ℕ)) → length words ≡ words_each about
       → HasReached (HasLoaded p) words → KeepsRoots about words map → InRegion about (region_of about x) map
       → MatchBool answer ((flags : ℕ) × Has (x, flags) map) ((flags : ℕ) → Has (x, flags) map → ⊥)
-
--- the pass read a region once without its lock, where it wanted the root x
-pub record Peeked (about : About) (x : ℕ) (v w : View Regions) : Type 0 where
-  pub reader : Reading
-  pub root_is : w.root ≡ record v.root { reader = reader ∷ []; peeks = suc v.root.peeks }
-  pub pair_is : reader.pair ≡ x
-  pub region_is : reader.region ≡ region_of about x
 
 module _ (width flags : ℕ) (store : Store) (x : ℕ) (old new : PassOf Regions) where
   -- at one moment the region's words had no such root: its vector has no name that the pass has then seen.
@@ -76,8 +65,7 @@ module _ (width flags : ℕ) (store : Store) (x : ℕ) (old new : PassOf Regions
   pub record RootChanged : Type 0 where
     pub rest : AtRest (compact width flags) store new
     pub no_call : Caught (compact width flags) [] (view old) (view new)
-    pub cause : (q : Reading) → (view new).root.reader ≡ q ∷ []
-        → (IsOdd q.first ⊎ (q.first ≡ last)) ⊎ (q.second ≢ q.first)
+    pub cause : (q : Reading) → (view new).root.reader ≡ q ∷ [] → LockChanged q
     pub buffers : new ≡ record old { seat = new.seat }
 
   -- what each answer of a peek tells
@@ -85,6 +73,12 @@ module _ (width flags : ℕ) (store : Store) (x : ℕ) (old new : PassOf Regions
   PeekTold (Seen id) = RootPut (compact width flags) store x id false old new × (id ≡ x)
   PeekTold Absent = RootAbsent
   PeekTold Changed = RootChanged
+
+-- whether a look found the root
+abbrev pub finds : Peek → Bool
+finds (Seen id) = true
+finds Absent = false
+finds Changed = false
 
 -- how many ticks there were, where there had been so many: one more where a call was made
 abbrev pub ticked : Peek → Option ℕ → Option ℕ
@@ -103,7 +97,7 @@ pub record Acted (width flags : ℕ) (store : Store) (act : Act) (id : ℕ) (old
     pub rest : AtRest (compact width flags) store new
     pub entry : (vector : Vector) → name_of (view old).seen vector ≡ Some id
         → Caught (compact width flags) (deed (view old).number act vector id ∷ []) (view old) (view new)
-    pub locked : LockedOnce (view old) (view new)
+    pub locked : LockedOnce (view old).root (view new).root
     pub buffers : new ≡ record old { seat = new.seat }
 
 -- a flag is set, or cleared, and this says whether it changed

@@ -10,8 +10,8 @@ ghost use Rattle.pair_rule.specs.Plays.{Caught};
 ghost use Rattle.pair_rule.specs.Rest.{AtRest, view};
 ghost use Rattle.region_root.specs.declared.root.Holding.{Holding};
 ghost use Rattle.region_root.specs.Layout.{place, IsPacked, KeepsRoots};
-ghost use Rattle.region_root.specs.Compact.{compact};
-ghost use Rattle.region_root.specs.Told.{FindTold, LockedOnce};
+ghost use Rattle.region_root.specs.Compact.{LockedOnce, compact};
+ghost use Rattle.region_root.specs.Told.{FindTold};
 ghost use Rattle.region_root.specs.Work.{AtWork};
 
 use crate::held::has_root;
@@ -71,7 +71,7 @@ fn find_pair<H: Wait, const W: u32, const F: u32>(
     ensures rest { AtRest (compact W F) table.now pass.new }
     ensures found { MatchBool result (Called (compact W F) false pair pair (view pass.old) (view pass.new))
         (Caught (compact W F) [] (view pass.old) (view pass.new) × IsNoName pair (view pass.new).seen) }
-    ensures locked { LockedOnce (view pass.old) (view pass.new) }
+    ensures locked { LockedOnce (view pass.old).root (view pass.new).root }
     ensures others { pass.new ≡ record pass.old { seat = pass.new.seat } }
 {
     let at = root_place(table, pair);
@@ -103,7 +103,7 @@ pub fn find_id<H: Wait, const W: u32, const F: u32>(
     requires rest { AtRest (compact W F) nodes.now pass.old }
     ensures found { MatchOption result (RootUnknown (compact W F) nodes.now id pass.old pass.new)
         (λ parts. RootFound (compact W F) nodes.now id parts pass.old pass.new) }
-    ensures locked { IsPacked nodes.now.about id → LockedOnce (view pass.old) (view pass.new) }
+    ensures locked { IsPacked nodes.now.about id → LockedOnce (view pass.old).root (view pass.new).root }
     ensures still { (IsPacked nodes.now.about id → ⊥) → pass.new ≡ pass.old }
 {
     let table = nodes.table();

@@ -5,8 +5,8 @@ ghost use Rattle.pair_rule.specs.Calls.{IsSomeRoot};
 ghost use Rattle.pair_rule.specs.Rest.{AtRest, view};
 ghost use Rattle.region_root.specs.declared.root.Reading.{Reading};
 ghost use Rattle.region_root.specs.Layout.{place, IsPacked};
-ghost use Rattle.region_root.specs.Compact.{IsEven, IsOdd, last, compact};
-ghost use Rattle.region_root.specs.Told.{FindsRoot, Peeked, PeekTold, ticked};
+ghost use Rattle.region_root.specs.Compact.{IsEven, IsOdd, last, Looked, compact};
+ghost use Rattle.region_root.specs.Told.{FindsRoot, PeekTold, finds, ticked};
 ghost use Rattle.region_root.specs.Work.{ReadsOn};
 
 use crate::access::find_read;
@@ -74,7 +74,7 @@ fn peek_pair<const W: u32, const F: u32>(
     requires rest { AtRest (compact W F) table.now pass.old }
     requires packed { IsPacked table.now.about pair }
     ensures told { PeekTold W F table.now pair pass.old pass.new result }
-    ensures peeked { Peeked table.now.about pair (view pass.old) (view pass.new) }
+    ensures looked { Looked table.now.about pair (finds result) (view pass.old).root (view pass.new).root }
 {
     let at = root_place(table, pair);
     let first = open_peek(table, pass, at.region, pair);
@@ -112,8 +112,8 @@ pub fn peek_root<L: Ledger, const W: u32, const F: u32>(
         (pair_of nodes.now.about.width left right) }
     ensures told { PeekTold W F nodes.now (pair_of nodes.now.about.width left right)
         pass.old pass.new result }
-    ensures peeked { Peeked nodes.now.about (pair_of nodes.now.about.width left right)
-        (view pass.old) (view pass.new) }
+    ensures looked { Looked nodes.now.about (pair_of nodes.now.about.width left right) (finds result)
+        (view pass.old).root (view pass.new).root }
     ensures tick { L.count steps.new ≡ ticked result (L.count steps.old) }
 {
     let table = nodes.table();

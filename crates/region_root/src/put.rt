@@ -10,8 +10,8 @@ ghost use Rattle.pair_rule.specs.Calls.{IsSomeRoot, KeepsBuffers};
 ghost use Rattle.pair_rule.specs.Rest.{AtRest, view};
 ghost use Rattle.region_root.specs.declared.root.Holding.{Holding};
 ghost use Rattle.region_root.specs.Layout.{place, most, IsPacked, KeepsRoots};
-ghost use Rattle.region_root.specs.Compact.{compact};
-ghost use Rattle.region_root.specs.Told.{PutTold, LockedOnce};
+ghost use Rattle.region_root.specs.Compact.{LockedOnce, compact};
+ghost use Rattle.region_root.specs.Told.{PutTold};
 ghost use Rattle.region_root.specs.Work.{AtWork};
 
 use crate::held::add_root;
@@ -63,7 +63,7 @@ fn put_pair<H: Wait, const W: u32, const F: u32>(
     requires stands { IsSomeRoot table.now.about (view pass.old).known pair }
     ensures put { IfOk result (λ fresh. RootPut (compact W F) table.now pair pair fresh pass.old pass.new) }
     ensures refused { OnErr result (RootRefused (compact W F) table.now pair pass.old pass.new) }
-    ensures locked { LockedOnce (view pass.old) (view pass.new) }
+    ensures locked { LockedOnce (view pass.old).root (view pass.new).root }
 {
     let at = root_place(table, pair);
     let lock = lock_region(rt, table, pass, at.region);
@@ -93,7 +93,7 @@ pub fn put_root<H: Wait, L: Ledger, const W: u32, const F: u32>(
     ensures itself { IfOk result (λ a. a.0 ≡ pair_of nodes.now.about.width left right) }
     ensures refused { OnErr result (RootRefused (compact W F) nodes.now
         (pair_of nodes.now.about.width left right) pass.old pass.new) }
-    ensures locked { LockedOnce (view pass.old) (view pass.new) }
+    ensures locked { LockedOnce (view pass.old).root (view pass.new).root }
     ensures tick { L.count steps.new ≡ option_map counted (L.count steps.old) }
 {
     steps.tick();

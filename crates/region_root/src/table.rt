@@ -6,7 +6,7 @@ ghost use Rattle.packed_word.specs.Word.{pair_of};
 ghost use Rattle.tdb_base.specs.Fakes.{counted};
 ghost use Rattle.tdb_base.specs.History.{Vector, name_of};
 ghost use Rattle.pair_nodes.specs.Roots.{RootPut, RootRefused, RootUnseen, RootFound, RootUnknown, RootRead};
-ghost use Rattle.pair_nodes.specs.Roots.{ticked_if};
+ghost use Rattle.pair_nodes.specs.Roots.{IsUnlooked, ticked_if};
 ghost use Rattle.pair_rule.specs.Rest.{AtRest, view};
 ghost use Rattle.pair_rule.specs.Calls.{IsSomeRoot};
 ghost use Rattle.region_root.specs.Compact.{compact};
@@ -16,7 +16,7 @@ use crate::peek::{Peek, peek_root};
 use crate::put::put_root;
 use crate::root::CompactRoot;
 use crate::words::root_bytes;
-use pair_nodes::{Nodes, RootTable};
+use pair_nodes::{Nodes, RootNames, RootTable};
 use pair_rule::{Pass, RootPart, RootsFull};
 use std::sync::Wait;
 use tdb_base::{Ledger, Steps};
@@ -37,8 +37,35 @@ impl<'a, H, const W: u32, const F: u32> CompactTable<'a, H, W, F> {
     }
 }
 
+impl<'a, H, const W: u32, const F: u32> RootNames<W, F> for CompactTable<'a, H, W, F> {
+    ghost use Rattle.region_root.specs.Refused.{few_compact_names};
+
+    type Part = CompactRoot<W, F>;
+
+    ghost store = { λ t. t.nodes.now };
+
+    fn read(&self, pass: &mut Pass<CompactRoot<W, F>, W, F>, id: u64) -> (u64, u64)
+        requires rest { AtRest (compact W F) self.now.nodes.now pass.old }
+        requires named { (vector : Vector) × (name_of (view pass.old).seen vector ≡ Some id) }
+        ensures read { RootRead (compact W F) self.now.nodes.now id result pass.old pass.new }
+        ensures no_look { IsUnlooked (compact W F) (view pass.old).root (view pass.new).root }
+    {
+        root_pair(self.nodes, pass, id)
+    }
+
+    fn name_bytes(&self, names: u64) -> u64
+        requires { names ≤ 16777216 }
+        ensures all { result ≡ (compact W F).bytes self.now.nodes.now.about names }
+        ensures most { result ≤ 8 * names }
+    {
+        root_bytes(self.nodes.table(), names)
+    }
+
+    ghost few_names = { few_compact_names W F };
+}
+
 impl<'a, H: Wait, const W: u32, const F: u32> RootTable<W, F> for CompactTable<'a, H, W, F> {
-    ghost use Rattle.region_root.specs.Refused.{compact_refusals, few_compact_names};
+    ghost use Rattle.region_root.specs.Refused.{compact_refusals};
 
     type Part = CompactRoot<W, F>;
 
@@ -59,6 +86,9 @@ impl<'a, H: Wait, const W: u32, const F: u32> RootTable<W, F> for CompactTable<'
         ensures seen { MatchOption result (RootUnseen (compact W F) self.now.nodes.now pass.old pass.new)
             (λ id. RootPut (compact W F) self.now.nodes.now
             (pair_of self.now.nodes.now.about.width left right) id false pass.old pass.new) }
+        ensures look { (compact W F).after_look self.now.nodes.now.about
+            (pair_of self.now.nodes.now.about.width left right) (is_some result)
+            (view pass.old).root (view pass.new).root }
         ensures tick { L.count steps.new ≡ ticked_if (is_some result) (L.count steps.old) }
     {
         match peek_root(self.nodes, pass, left, right, steps) {
@@ -84,6 +114,7 @@ impl<'a, H: Wait, const W: u32, const F: u32> RootTable<W, F> for CompactTable<'
             (pair_of self.now.nodes.now.about.width left right) a.0 a.1 pass.old pass.new) }
         ensures refused { OnErr result (RootRefused (compact W F) self.now.nodes.now
             (pair_of self.now.nodes.now.about.width left right) pass.old pass.new) }
+        ensures call { (compact W F).after_call (view pass.old).root (view pass.new).root }
         ensures tick { L.count steps.new ≡ option_map counted (L.count steps.old) }
     {
         put_root(self.rt, self.nodes, pass, left, right, steps)
@@ -91,29 +122,12 @@ impl<'a, H: Wait, const W: u32, const F: u32> RootTable<W, F> for CompactTable<'
 
     fn find(&self, pass: &mut Pass<CompactRoot<W, F>, W, F>, id: u64) -> Option<(u64, u64)>
         requires { AtRest (compact W F) self.now.nodes.now pass.old }
-        ensures { MatchOption result (RootUnknown (compact W F) self.now.nodes.now id pass.old pass.new)
+        ensures found { MatchOption result (RootUnknown (compact W F) self.now.nodes.now id pass.old pass.new)
             (λ parts. RootFound (compact W F) self.now.nodes.now id parts pass.old pass.new) }
+        ensures no_look { IsUnlooked (compact W F) (view pass.old).root (view pass.new).root }
     {
         find_id(self.rt, self.nodes, pass, id)
     }
 
-    fn read(&self, pass: &mut Pass<CompactRoot<W, F>, W, F>, id: u64) -> (u64, u64)
-        requires rest { AtRest (compact W F) self.now.nodes.now pass.old }
-        requires named { (vector : Vector) × (name_of (view pass.old).seen vector ≡ Some id) }
-        ensures { RootRead (compact W F) self.now.nodes.now id result pass.old pass.new }
-    {
-        root_pair(self.nodes, pass, id)
-    }
-
-    fn name_bytes(&self, names: u64) -> u64
-        requires { names ≤ 16777216 }
-        ensures all { result ≡ (compact W F).bytes self.now.nodes.now.about names }
-        ensures most { result ≤ 8 * names }
-    {
-        root_bytes(self.nodes.table(), names)
-    }
-
     ghost refusals = { compact_refusals W F };
-
-    ghost few_names = { few_compact_names W F };
 }

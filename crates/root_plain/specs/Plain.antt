@@ -1,10 +1,10 @@
 -- The rule of a plain root table: each bucket is empty or has a root pair with flags, and those that are not
 -- empty are the identifiers of the history's names.
-use Rattle.std.specs.Prelude.{◌≡◌, ◌≢◌, ℕ, ◌*◌, ◌^◌, ◌<◌, ◌≤◌, List, [], ◌++◌, Some, slice_index}
+use Rattle.std.specs.Prelude.{◌≡◌, ◌≢◌, ℕ, ◌*◌, ◌^◌, ◌<◌, ◌≤◌, List, [], ◌++◌, Some, slice_index, false}
 use mathlib.Core.Option.{some}
 use lib.ListN.{get_elem?}
 use Rattle.packed_word.specs.Word.{word_of}
-use Rattle.tree_shape.specs.Tree.{Has}
+use Rattle.tree_shape.specs.Tree.{Has, IsPart}
 use Rattle.tdb_base.specs.History.{Vector, History, name_of, flags_of}
 use Rattle.pair_rule.specs.declared.view.View.{View}
 use Rattle.pair_rule.specs.declared.sizes.Sizes.{Sizes}
@@ -92,4 +92,6 @@ plain = record {
   sound = LiesOnPaths;
   split = λ t. t;
   join = both_roots;
+  after_look = λ about pair found t u. (found ≡ false) × (u ≡ t);
+  after_call = λ t u. IsPart t.roots u.roots;
 }

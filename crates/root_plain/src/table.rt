@@ -5,7 +5,7 @@ ghost use Rattle.packed_word.specs.Word.{pair_of};
 ghost use Rattle.tdb_base.specs.Fakes.{counted};
 ghost use Rattle.tdb_base.specs.History.{Vector, name_of};
 ghost use Rattle.pair_nodes.specs.Roots.{RootPut, RootRefused, RootUnseen, RootFound, RootUnknown, RootRead};
-ghost use Rattle.pair_nodes.specs.Roots.{ticked_if};
+ghost use Rattle.pair_nodes.specs.Roots.{IsUnlooked, ticked_if};
 ghost use Rattle.pair_rule.specs.Rest.{AtRest, view};
 ghost use Rattle.pair_rule.specs.Calls.{IsSomeRoot};
 ghost use Rattle.root_plain.specs.Plain.{plain};
@@ -13,7 +13,7 @@ ghost use Rattle.root_plain.specs.Plain.{plain};
 use crate::find::{find_id, root_pair};
 use crate::put::put_root;
 use crate::root::PlainRoot;
-use pair_nodes::{Nodes, RootTable};
+use pair_nodes::{Nodes, RootNames, RootTable};
 use pair_rule::{Pass, RootPart, RootsFull};
 use tdb_base::{Ledger, Steps};
 
@@ -32,8 +32,35 @@ impl<'a, const W: u32, const F: u32> PlainTable<'a, W, F> {
     }
 }
 
+impl<'a, const W: u32, const F: u32> RootNames<W, F> for PlainTable<'a, W, F> {
+    ghost use Rattle.root_plain.specs.Refused.{few_plain_names};
+
+    type Part = PlainRoot<W, F>;
+
+    ghost store = { λ t. t.nodes.now };
+
+    fn read(&self, pass: &mut Pass<PlainRoot<W, F>, W, F>, id: u64) -> (u64, u64)
+        requires rest { AtRest plain self.now.nodes.now pass.old }
+        requires named { (vector : Vector) × (name_of (view pass.old).seen vector ≡ Some id) }
+        ensures read { RootRead plain self.now.nodes.now id result pass.old pass.new }
+        ensures no_look { IsUnlooked plain (view pass.old).root (view pass.new).root }
+    {
+        root_pair(self.nodes, pass, id)
+    }
+
+    fn name_bytes(&self, names: u64) -> u64
+        requires { names ≤ 16777216 }
+        ensures all { result ≡ 8 * names }
+        ensures most { result ≤ 8 * names }
+    {
+        8 * names
+    }
+
+    ghost few_names = { few_plain_names };
+}
+
 impl<'a, const W: u32, const F: u32> RootTable<W, F> for PlainTable<'a, W, F> {
-    ghost use Rattle.root_plain.specs.Refused.{plain_refusals, few_plain_names};
+    ghost use Rattle.root_plain.specs.Refused.{plain_refusals};
 
     type Part = PlainRoot<W, F>;
 
@@ -54,6 +81,9 @@ impl<'a, const W: u32, const F: u32> RootTable<W, F> for PlainTable<'a, W, F> {
         ensures seen { MatchOption result (RootUnseen plain self.now.nodes.now _pass.old _pass.new)
             (λ id. RootPut plain self.now.nodes.now
             (pair_of self.now.nodes.now.about.width _left _right) id false _pass.old _pass.new) }
+        ensures look { plain.after_look self.now.nodes.now.about
+            (pair_of self.now.nodes.now.about.width _left _right) (is_some result)
+            (view _pass.old).root (view _pass.new).root }
         ensures tick { L.count _steps.new ≡ ticked_if (is_some result) (L.count _steps.old) }
     {
         None
@@ -75,6 +105,7 @@ impl<'a, const W: u32, const F: u32> RootTable<W, F> for PlainTable<'a, W, F> {
             (pair_of self.now.nodes.now.about.width left right) a.0 a.1 pass.old pass.new) }
         ensures refused { OnErr result (RootRefused plain self.now.nodes.now
             (pair_of self.now.nodes.now.about.width left right) pass.old pass.new) }
+        ensures call { plain.after_call (view pass.old).root (view pass.new).root }
         ensures tick { L.count steps.new ≡ option_map counted (L.count steps.old) }
     {
         put_root(self.nodes, pass, left, right, steps)
@@ -82,29 +113,12 @@ impl<'a, const W: u32, const F: u32> RootTable<W, F> for PlainTable<'a, W, F> {
 
     fn find(&self, pass: &mut Pass<PlainRoot<W, F>, W, F>, id: u64) -> Option<(u64, u64)>
         requires { AtRest plain self.now.nodes.now pass.old }
-        ensures { MatchOption result (RootUnknown plain self.now.nodes.now id pass.old pass.new)
+        ensures found { MatchOption result (RootUnknown plain self.now.nodes.now id pass.old pass.new)
             (λ parts. RootFound plain self.now.nodes.now id parts pass.old pass.new) }
+        ensures no_look { IsUnlooked plain (view pass.old).root (view pass.new).root }
     {
         find_id(self.nodes, pass, id)
     }
 
-    fn read(&self, pass: &mut Pass<PlainRoot<W, F>, W, F>, id: u64) -> (u64, u64)
-        requires rest { AtRest plain self.now.nodes.now pass.old }
-        requires named { (vector : Vector) × (name_of (view pass.old).seen vector ≡ Some id) }
-        ensures { RootRead plain self.now.nodes.now id result pass.old pass.new }
-    {
-        root_pair(self.nodes, pass, id)
-    }
-
-    fn name_bytes(&self, names: u64) -> u64
-        requires { names ≤ 16777216 }
-        ensures all { result ≡ 8 * names }
-        ensures most { result ≤ 8 * names }
-    {
-        8 * names
-    }
-
     ghost refusals = { plain_refusals };
-
-    ghost few_names = { few_plain_names };
 }

@@ -2,7 +2,7 @@
 use Rattle.std.proofs.Common.{◌≡◌, ℕ, ◌+◌, ◌-◌, ◌*◌, List, [], ◌∷◌, length, drop, get_or, Bool, Option, Some, None, true, false, sym, ap, ◌∙◌, subst, arith}
 use Rattle.std.specs.Prelude.{if◌then◌else◌}
 use Rattle.std.proofs.lemmas.List.{get_or-drop}
-use Rattle.tree_shape.specs.Tree.{Has, IsPart, slot}
+use Rattle.tree_shape.specs.Tree.{Has, IsPart, RootStands, slot}
 use Rattle.tdb_base.specs.History.{Vector, History, name_of, calls}
 use Rattle.tdb_base.specs.Legal.{IsLegal, Extends}
 use Rattle.tdb_base.proofs.NameLemmas.{entry-named}
@@ -16,8 +16,9 @@ use Rattle.pair_rule.specs.Rest.{AtRest, view, last_vector}
 use Rattle.pair_rule.specs.Part.{Store, Part, root_pairs}
 use Rattle.pair_rule.specs.Plays.{Caught}
 use Rattle.pair_rule.specs.Calls.{call, KeepsBuffers}
+use Rattle.pair_nodes.specs.Roots.{IsFoundOrPut, IsPutAfterLook}
 use Rattle.tree_store.specs.Vectors.{slots_of, StandsFrom, raised, Gained, Building, compared, puts_after}
-use Rattle.tree_store.specs.Store.{naming, IfNamed, NeverNamed, Advanced, HasRoot, HasBlockedRoot, TreeBecomesLast, KeepsLastTree, IsNamed, IsFullAtRoot, IsAnswered, AreTicked, RootIsNamed, RootIsFull, RootIsAnswered}
+use Rattle.tree_store.specs.Store.{naming, IfNamed, NeverNamed, Advanced, HasRoot, HasBlockedRoot, LooksAndPuts, FindsOrPuts, TreeBecomesLast, KeepsLastTree, IsNamed, IsFullAtRoot, IsAnswered, AreTicked, RootIsNamed, RootIsFull, RootIsAnswered}
 use Rattle.tree_store.proofs.Builds.{in_more}
 
 -- at the slots of a tree its own vector stands
@@ -89,6 +90,17 @@ module _ {T : Type 0} (part : Part T) (store : Store) (last : Option Vector) (ve
   known_more : (more : History) → Caught part more (view n) (view q) → Gained store.about vector (puts_after store.about last vector) (view p) (view q)
   known_more more k = gained_before store.about vector (puts_after store.about last vector) (view p) (view n) (view q) built k.made k.known
 
+  -- the look for the root came after the nodes, which leave what is known of roots
+  found_before : (fresh : Bool) → FindsOrPuts part store.about (slots_of store.about n.next_tree.items) fresh (view n) (view q) → FindsOrPuts part store.about vector fresh (view p) (view q)
+  found_before fresh f =
+      let from = subst (λ (l : Vector). FindsOrPuts part store.about l fresh (view n) (view q)) filled f in
+      (from.0, from.1, subst (λ (t : T). IsFoundOrPut part store.about from.0 fresh t (view q).root) built.grown.root from.2)
+
+  put_before : LooksAndPuts part store.about (slots_of store.about n.next_tree.items) (view n) (view q) → LooksAndPuts part store.about vector (view p) (view q)
+  put_before f =
+      let from = subst (λ (l : Vector). LooksAndPuts part store.about l (view n) (view q)) filled f in
+      (from.0, from.1, subst (λ (t : T). IsPutAfterLook part store.about from.0 t (view q).root) built.grown.root from.2)
+
   named : (fresh : Bool) (id : ℕ) → RootIsNamed part store (slots_of store.about n.next_tree.items) fresh id n q → IsNamed part store last vector fresh id p q
   named fresh id a =
       let called = advanced_call part (view p) (view n) (view q) (slots_of store.about n.next_tree.items) vector fresh id built.grown filled a.call_is in
@@ -96,6 +108,7 @@ module _ {T : Type 0} (part : Part T) (store : Store) (last : Option Vector) (ve
         call_is = called;
         name = call_named part (view p).number fresh vector id (view p) (view q) after.seat.sound.legal called;
         root = subst (λ (l : Vector). HasRoot part store.about (view q) l id) filled a.root;
+        looked = found_before fresh a.looked;
         last_is = tree_last store.about n q a.tree after.seat.about_is ∙ ap Some filled;
         nodes = known_more (call (view n).number fresh (slots_of store.about n.next_tree.items) id ∷ []) a.call_is;
         probes = a.call_is.probes ∙ built.probes_are;
@@ -106,6 +119,7 @@ module _ {T : Type 0} (part : Part T) (store : Store) (last : Option Vector) (ve
       let blocked = subst (λ (l : Vector). HasBlockedRoot part store.about (view q) l) filled a.blocked in
       record {
         blocked = blocked;
+        looked = put_before a.looked;
         no_call = advanced part [] (view p) (view n) (view q) built.grown a.no_call;
         nodes = known_more [] a.no_call;
         probes = a.no_call.probes ∙ built.probes_are;

@@ -13,6 +13,7 @@ use Rattle.pair_rule.specs.View.{face}
 use Rattle.pair_rule.specs.Rest.{AtRest, view, last_vector}
 use Rattle.pair_rule.specs.Plays.{Caught}
 use Rattle.pair_rule.specs.Calls.{call, KeepsBuffers}
+use Rattle.pair_nodes.specs.Roots.{IsFoundOrPut, IsPutAfterLook}
 use Rattle.tree_store.specs.Vectors.{IsBlockedRoot, puts_after, raised, RaisedWithin, Gained, Refused}
 
 -- the reply that names a vector: whether it is new, and its identifier
@@ -56,6 +57,16 @@ module _ {T : Type 0} (part : Part T) where
   abbrev pub HasBlockedRoot : About → View T → Vector → Type 0
   HasBlockedRoot about v vector = IsBlockedRoot about v.known (part.is_full about (root_pairs part v)) vector
 
+  -- How the answer about a vector came: one look was made for a root pair that stands for it; and the root was
+  -- put by one call, only where that look did not find it.
+  abbrev pub LooksAndPuts : About → Vector → View T → View T → Type 0
+  LooksAndPuts about vector v w = (pair : ℕ) × RootStands about.width about.slots w.known pair vector
+      × IsPutAfterLook part about pair v.root w.root
+
+  abbrev pub FindsOrPuts : About → Vector → Bool → View T → View T → Type 0
+  FindsOrPuts about vector fresh v w = (pair : ℕ) × RootStands about.width about.slots w.known pair vector
+      × IsFoundOrPut part about pair fresh v.root w.root
+
 module _ {T : Type 0} where
   -- the tree that was put is the last one
   abbrev pub TreeBecomesLast : PassOf T → PassOf T → Type 0
@@ -81,13 +92,16 @@ module _ {T : Type 0} (part : Part T) (store : Store) (last : Option Vector) (ve
     pub call_is : Advanced part (call (view old).number fresh vector id ∷ []) (view old) (view new)
     pub name : name_of (view new).seen vector ≡ Some id
     pub root : HasRoot part store.about (view new) vector id
+    pub looked : FindsOrPuts part store.about vector fresh (view old) (view new)
     pub last_is : last_vector new ≡ Some vector
     pub nodes : Gained store.about vector (puts_after store.about last vector) (view old) (view new)
     pub probes : (view new).probes ≡ (view old).probes + puts_after store.about last vector
 
-  -- some pair inside the vector's tree has no place: no call was made, and the vector gets no name for good
+  -- some pair inside the vector's tree has no place: no call was made, no look for a root, and the vector gets
+  -- no name for good
   pub record IsFullInside (old new : PassOf T) : Type 0 where
     pub refused : Refused store.about vector (puts_after store.about last vector) (view old) (view new)
+    pub no_look : (view new).root ≡ (view old).root
     pub last_stays : KeepsLastTree old new
     pub for_good : NeverNamed part store new vector
 
@@ -95,6 +109,7 @@ module _ {T : Type 0} (part : Part T) (store : Store) (last : Option Vector) (ve
   -- good
   pub record IsFullAtRoot (old new : PassOf T) : Type 0 where
     pub blocked : HasBlockedRoot part store.about (view new) vector
+    pub looked : LooksAndPuts part store.about vector (view old) (view new)
     pub no_call : Advanced part [] (view old) (view new)
     pub nodes : Gained store.about vector (puts_after store.about last vector) (view old) (view new)
     pub probes : (view new).probes ≡ (view old).probes + puts_after store.about last vector
@@ -121,11 +136,13 @@ module _ {T : Type 0} (part : Part T) (store : Store) (vector : Vector) where
   pub record RootIsNamed (fresh : Bool) (id : ℕ) (old new : PassOf T) : Type 0 where
     pub call_is : Caught part (call (view old).number fresh vector id ∷ []) (view old) (view new)
     pub root : HasRoot part store.about (view new) vector id
+    pub looked : FindsOrPuts part store.about vector fresh (view old) (view new)
     pub tree : TreeBecomesLast old new
 
   pub record RootIsFull (old new : PassOf T) : Type 0 where
     pub no_call : Caught part [] (view old) (view new)
     pub blocked : HasBlockedRoot part store.about (view new) vector
+    pub looked : LooksAndPuts part store.about vector (view old) (view new)
     pub buffers : KeepsBuffers old new
 
   abbrev pub RootIsAnswered : Reply → PassOf T → PassOf T → Type 0

@@ -6,7 +6,7 @@ ghost use Rattle.pair_rule.specs.Numbers.{NoRepeats};
 ghost use Rattle.pair_rule.specs.Rest.{AtRest, Whole, names_of_callers, view};
 
 use crate::store::TreeStore;
-use pair_nodes::RootTable;
+use pair_nodes::RootNames;
 use pair_rule::{Pass, RootPart};
 
 impl<R: RootPart<W, F>, const W: u32, const F: u32> TreeStore<R, W, F> {
@@ -37,26 +37,26 @@ impl<R: RootPart<W, F>, const W: u32, const F: u32> TreeStore<R, W, F> {
 
 /// How many bytes the nodes and names take that the pass counts: 8 for each node, and for names what their
 /// root table says.
-pub fn stored_bytes_of<D: RootTable<W, F>, const W: u32, const F: u32>(
-    roots: &D,
-    store: &TreeStore<D::Part, W, F>,
-    pass: &Pass<D::Part, W, F>,
+pub fn stored_bytes_of<N: RootNames<W, F>, const W: u32, const F: u32>(
+    names: &N,
+    store: &TreeStore<N::Part, W, F>,
+    pass: &Pass<N::Part, W, F>,
 ) -> u64
-    requires roots { D.store roots.now ≡ store.now }
-    requires rest { AtRest D.Part.part store.now pass.now }
-    ensures { result ≡ 8 * length (view pass.now).made + D.Part.part.bytes store.now.about
+    requires names { N.store names.now ≡ store.now }
+    requires rest { AtRest N.Part.part store.now pass.now }
+    ensures { result ≡ 8 * length (view pass.now).made + N.Part.part.bytes store.now.about
         (names_of_callers (view pass.now).numbers (view pass.now).seen) }
 {
-    8 * store.nodes_made(pass) + roots.name_bytes(store.names_made(pass))
+    8 * store.nodes_made(pass) + names.name_bytes(store.names_made(pass))
 }
 
 /// How many bytes the vectors take whose names the pass counts, at 4 a slot.
-pub fn raw_bytes_of<D: RootTable<W, F>, const W: u32, const F: u32>(
-    _roots: &D,
-    store: &TreeStore<D::Part, W, F>,
-    pass: &Pass<D::Part, W, F>,
+pub fn raw_bytes_of<N: RootNames<W, F>, const W: u32, const F: u32>(
+    _names: &N,
+    store: &TreeStore<N::Part, W, F>,
+    pass: &Pass<N::Part, W, F>,
 ) -> u64
-    requires rest { AtRest D.Part.part store.now pass.now }
+    requires rest { AtRest N.Part.part store.now pass.now }
     ensures { result ≡ 4 * store.now.about.slots * names_of_callers (view pass.now).numbers
         (view pass.now).seen }
 {

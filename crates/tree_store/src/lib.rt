@@ -2,6 +2,7 @@
 //! de Pol and Weber 2011).
 #![tactic(auto)]
 
+mod compact;
 mod counts;
 mod create;
 mod fits;
@@ -14,6 +15,7 @@ mod store;
 mod tree;
 mod unfold;
 
+pub use compact::{CompactPass, CompactStore};
 pub use create::CreateError;
 pub use insert::insert_from_last;
 pub use plain::{PlainPass, PlainStore};

@@ -6,25 +6,25 @@ ghost use Rattle.tree_store.specs.Reading.{IsRead, IsLookedUp};
 
 use crate::store::TreeStore;
 use crate::unfold::unfold;
-use pair_nodes::{Nodes, RootTable};
+use pair_nodes::{Nodes, RootNames, RootTable};
 use pair_rule::Pass;
 
-// Reads the vector with this identifier, which the pass has seen named, through a store's root table.
-fn read_from<D: RootTable<W, F>, const W: u32, const F: u32>(
-    roots: &D,
-    nodes: &Nodes<D::Part, W, F>,
-    pass: &mut Pass<D::Part, W, F>,
+// Reads the vector with this identifier, which the pass has seen named, through a store's names.
+fn read_from<N: RootNames<W, F>, const W: u32, const F: u32>(
+    names: &N,
+    nodes: &Nodes<N::Part, W, F>,
+    pass: &mut Pass<N::Part, W, F>,
     id: u64,
     out: &mut [u32],
 )
-    requires roots { D.store roots.now ≡ nodes.now }
-    requires rest { AtRest D.Part.part nodes.now pass.old }
+    requires names { N.store names.now ≡ nodes.now }
+    requires rest { AtRest N.Part.part nodes.now pass.old }
     requires named { (vector : Vector) × (name_of (view pass.old).seen vector ≡ Some id) }
     requires out { length out.old ≡ nodes.now.about.slots }
-    ensures rest { AtRest D.Part.part nodes.now pass.new }
-    ensures read { IsRead D.Part.part id out.new pass.old pass.new }
+    ensures rest { AtRest N.Part.part nodes.now pass.new }
+    ensures read { IsRead N.Part.part id out.new pass.old pass.new }
 {
-    let (left, right) = roots.read(pass, id);
+    let (left, right) = names.read(pass, id);
     unfold(nodes, pass, left, right, out);
 }
 
@@ -50,22 +50,22 @@ fn find_in<D: RootTable<W, F>, const W: u32, const F: u32>(
 }
 
 /// Puts the vector with this identifier into `out`: `TreeStore::read` over any root table.
-pub fn read_vector<D: RootTable<W, F>, const W: u32, const F: u32>(
-    roots: &D,
-    store: &TreeStore<D::Part, W, F>,
-    pass: &mut Pass<D::Part, W, F>,
+pub fn read_vector<N: RootNames<W, F>, const W: u32, const F: u32>(
+    names: &N,
+    store: &TreeStore<N::Part, W, F>,
+    pass: &mut Pass<N::Part, W, F>,
     id: u64,
     out: &mut [u32],
 )
-    requires roots { D.store roots.now ≡ store.now }
-    requires rest { AtRest D.Part.part store.now pass.old }
+    requires names { N.store names.now ≡ store.now }
+    requires rest { AtRest N.Part.part store.now pass.old }
     requires named { (vector : Vector) × (name_of (view pass.old).seen vector ≡ Some id) }
     requires out { length out.old ≡ store.now.about.slots }
-    ensures rest { AtRest D.Part.part store.now pass.new }
-    ensures read { IsRead D.Part.part id out.new pass.old pass.new }
+    ensures rest { AtRest N.Part.part store.now pass.new }
+    ensures read { IsRead N.Part.part id out.new pass.old pass.new }
 {
     let nodes = &store.nodes;
-    read_from(roots, nodes, pass, id, out);
+    read_from(names, nodes, pass, id, out);
 }
 
 /// Puts the vector with this identifier into `out`, if it is some vector's: `TreeStore::lookup` over any root

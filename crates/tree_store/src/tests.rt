@@ -7,8 +7,12 @@ ghost use Rattle.pair_rule.specs.Rest.{AtRest, view};
 ghost use Rattle.root_plain.specs.Plain.{plain};
 ghost use Rattle.tree_store.specs.Store.{IfNamed};
 
+mod compact;
+mod crowd;
+
 use crate::{CreateError, PlainPass, PlainStore, TreeStore};
-use pair_rule::Sizes;
+use pair_rule::{Pass, RootPart, Sizes};
+use region_root::CompactRoot;
 use root_plain::PlainRoot;
 use std::alloc::Global;
 use std::process::Abort;
@@ -17,6 +21,26 @@ use tdb_base::{Kept, Ledger, Reply, Silent, Steps};
 use tree_shape::Shape;
 
 // A store of vectors of `slots` slots, and its pass.
+pub(crate) fn open<R: RootPart<W, F>, const W: u32, const F: u32>(
+    rt: &impl Abort,
+    alloc: Global,
+    slots: usize,
+    sizes: &Sizes,
+) -> (TreeStore<R, W, F>, Pass<R, W, F>)
+    requires layout { IsLayout W F }
+    ensures slots { result.0.about.slots ≡ slots }
+    ensures rest { AtRest R.part result.0 result.1 }
+{
+    let Ok(shape) = Shape::new(slots) else {
+        panic!(rt; "no shape")
+    };
+    let Ok(made) = TreeStore::<R, W, F>::create(alloc, shape, sizes) else {
+        panic!(rt; "no store")
+    };
+    made
+}
+
+// A plain store of 8 roots.
 fn store<const W: u32, const F: u32>(
     rt: &impl Abort,
     alloc: Global,
@@ -33,13 +57,7 @@ fn store<const W: u32, const F: u32>(
         region: 0,
         probe: 4_194_304,
     };
-    let Ok(shape) = Shape::new(slots) else {
-        panic!(rt; "no shape")
-    };
-    let Ok(made) = TreeStore::<PlainRoot<W, F>, W, F>::create(alloc, shape, &sizes) else {
-        panic!(rt; "no store")
-    };
-    made
+    open::<PlainRoot<W, F>, W, F>(rt, alloc, slots, &sizes)
 }
 
 // The answer of the vector, which the store can keep.
@@ -59,17 +77,24 @@ fn put<L: Ledger, const W: u32, const F: u32>(
 }
 
 // The number of the size that is refused, or 0.
-fn refused(rt: &impl Abort, alloc: Global, nodes: u32, roots: u32, probe: u64) -> u32 {
+fn refused<R: RootPart<16, 8>>(
+    rt: &impl Abort,
+    alloc: Global,
+    nodes: u32,
+    roots: u32,
+    region: u32,
+    probe: u64,
+) -> u32 {
     let sizes = Sizes {
         nodes,
         roots,
-        region: 0,
+        region,
         probe,
     };
     let Ok(shape) = Shape::new(2) else {
         panic!(rt; "no shape")
     };
-    match TreeStore::<PlainRoot<16, 8>, 16, 8>::create(alloc, shape, &sizes) {
+    match TreeStore::<R, 16, 8>::create(alloc, shape, &sizes) {
         Ok(_) => 0,
         Err(CreateError::Sizes(number)) => number,
         Err(CreateError::NoMemory) => 9,
@@ -78,11 +103,16 @@ fn refused(rt: &impl Abort, alloc: Global, nodes: u32, roots: u32, probe: u64) -
 
 #[test]
 fn refuses_sizes(rt: HostRuntime) -> Result<(), Fail> {
-    assert_eq!(rt; refused(&rt, rt.alloc(), 2, 3, 1), 1);
-    assert_eq!(rt; refused(&rt, rt.alloc(), 17, 3, 1), 1);
-    assert_eq!(rt; refused(&rt, rt.alloc(), 3, 25, 1), 2);
-    assert_eq!(rt; refused(&rt, rt.alloc(), 3, 3, 0), 4);
-    assert_eq!(rt; refused(&rt, rt.alloc(), 3, 3, 1), 0);
+    assert!(rt; refused::<PlainRoot<16, 8>>(&rt, rt.alloc(), 2, 3, 6, 1) == 1);
+    assert!(rt; refused::<PlainRoot<16, 8>>(&rt, rt.alloc(), 17, 3, 6, 1) == 1);
+    assert!(rt; refused::<PlainRoot<16, 8>>(&rt, rt.alloc(), 3, 25, 6, 1) == 2);
+    assert!(rt; refused::<PlainRoot<16, 8>>(&rt, rt.alloc(), 3, 3, 0, 0) == 4);
+    assert!(rt; refused::<PlainRoot<16, 8>>(&rt, rt.alloc(), 3, 3, 0, 1) == 0);
+    assert!(rt; refused::<CompactRoot<16, 8>>(&rt, rt.alloc(), 2, 3, 6, 1) == 1);
+    assert!(rt; refused::<CompactRoot<16, 8>>(&rt, rt.alloc(), 3, 25, 6, 1) == 2);
+    assert!(rt; refused::<CompactRoot<16, 8>>(&rt, rt.alloc(), 3, 6, 7, 1) == 3);
+    assert!(rt; refused::<CompactRoot<16, 8>>(&rt, rt.alloc(), 3, 6, 6, 0) == 4);
+    assert!(rt; refused::<CompactRoot<16, 8>>(&rt, rt.alloc(), 3, 6, 6, 1) == 0);
     Ok(())
 }
 

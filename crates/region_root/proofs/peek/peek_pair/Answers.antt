@@ -1,8 +1,8 @@
-use Rattle.std.proofs.Common.{arith, refl, ap, subst}
+use Rattle.std.proofs.Common.{arith, true, false, refl, ap, subst}
 use Rattle.mix_hash.specs.declared.Place.{Place}
 use Rattle.region_root.specs.Plays.{reading}
 use Rattle.region_root.specs.Told.{FindsRoot}
-use Rattle.region_root.proofs.Peeking.{first_changed, peeked, changed, seen, absent}
+use Rattle.region_root.proofs.Peeking.{first_changed, first_looked, changed, looked_changed, looked, seen, absent}
 use Rattle.region_root.proofs.peek.peek_pair.Goals as goal
 
 pub returns-then-not-is_believable-clause-told : goal.returns-then-not-is_believable-clause-told
@@ -25,20 +25,30 @@ returns-then-close_peek-first-clause-told g c =
     changed g.row.W g.row.F c.args.table.now c.root_place-at.ensures.store c.args.pair c.args.pass.now c.open_peek-first.new.pass c.look_for-found.new.pass c.close_peek.new.pass c.root_place-at.result.region c.open_peek-first.result c.close_peek.result c.requires.rest
     (ap (λ (p : Place). p.region) c.root_place-at.ensures.same) c.open_peek-first.ensures.view c.open_peek-first.ensures.others c.look_for-found.ensures.reads c.close_peek.ensures.rest c.close_peek.ensures.told c.close_peek.ensures.others c.if-close_peek-first.true
 
-pub returns-then-close_peek-first-clause-peeked : goal.returns-then-close_peek-first-clause-peeked
-returns-then-close_peek-first-clause-peeked g c =
-    peeked g.row.W g.row.F c.args.table.now c.root_place-at.ensures.store c.args.pair c.args.pass.now c.open_peek-first.new.pass c.look_for-found.new.pass c.close_peek.new.pass c.root_place-at.result.region c.open_peek-first.result c.close_peek.result c.requires.rest
-    (ap (λ (p : Place). p.region) c.root_place-at.ensures.same) c.open_peek-first.ensures.view c.open_peek-first.ensures.others c.look_for-found.ensures.reads c.close_peek.ensures.rest c.close_peek.ensures.told c.close_peek.ensures.others
+pub returns-then-not-is_believable-clause-looked : goal.returns-then-not-is_believable-clause-looked
+returns-then-not-is_believable-clause-looked g c =
+    first_looked c.args.table.now.about c.args.pass.now c.open_peek-first.new.pass c.root_place-at.result.region c.args.pair c.open_peek-first.result (ap (λ (p : Place). p.region) c.root_place-at.ensures.same) c.open_peek-first.ensures.view
+    (c.is_believable.ensures.no c.if-not-is_believable.true)
 
-pub returns-then-found-clause-peeked : goal.returns-then-found-clause-peeked
-returns-then-found-clause-peeked g c =
-    peeked g.row.W g.row.F c.args.table.now c.root_place-at.ensures.store c.args.pair c.args.pass.now c.open_peek-first.new.pass c.look_for-found.new.pass c.close_peek.new.pass c.root_place-at.result.region c.open_peek-first.result c.close_peek.result c.requires.rest
+pub returns-then-close_peek-first-clause-looked : goal.returns-then-close_peek-first-clause-looked
+returns-then-close_peek-first-clause-looked g c =
+    looked_changed g.row.W g.row.F c.args.table.now c.root_place-at.ensures.store c.args.pair c.args.pass.now c.open_peek-first.new.pass c.look_for-found.new.pass c.close_peek.new.pass c.root_place-at.result.region c.open_peek-first.result c.close_peek.result c.requires.rest
     (ap (λ (p : Place). p.region) c.root_place-at.ensures.same) c.open_peek-first.ensures.view c.open_peek-first.ensures.others c.look_for-found.ensures.reads c.close_peek.ensures.rest c.close_peek.ensures.told c.close_peek.ensures.others
+    c.if-close_peek-first.true
 
-pub returns-else-found-clause-peeked : goal.returns-else-found-clause-peeked
-returns-else-found-clause-peeked g c =
-    peeked g.row.W g.row.F c.args.table.now c.root_place-at.ensures.store c.args.pair c.args.pass.now c.open_peek-first.new.pass c.look_for-found.new.pass c.close_peek.new.pass c.root_place-at.result.region c.open_peek-first.result c.close_peek.result c.requires.rest
+pub returns-then-found-clause-looked : goal.returns-then-found-clause-looked
+returns-then-found-clause-looked g c =
+    let b = c.is_believable.ensures.yes c.if-not-is_believable.false in
+    looked g.row.W g.row.F c.args.table.now c.root_place-at.ensures.store c.args.pair c.args.pass.now c.open_peek-first.new.pass c.look_for-found.new.pass c.close_peek.new.pass c.root_place-at.result.region c.open_peek-first.result c.close_peek.result c.requires.rest
     (ap (λ (p : Place). p.region) c.root_place-at.ensures.same) c.open_peek-first.ensures.view c.open_peek-first.ensures.others c.look_for-found.ensures.reads c.close_peek.ensures.rest c.close_peek.ensures.told c.close_peek.ensures.others
+    c.if-close_peek-first.false b.0 b.1 true (subst (FindsRoot c.args.table.now.about c.args.pair c.look_for-found.new.pass) c.if-found.true c.look_for-found.ensures.finds)
+
+pub returns-else-found-clause-looked : goal.returns-else-found-clause-looked
+returns-else-found-clause-looked g c =
+    let b = c.is_believable.ensures.yes c.if-not-is_believable.false in
+    looked g.row.W g.row.F c.args.table.now c.root_place-at.ensures.store c.args.pair c.args.pass.now c.open_peek-first.new.pass c.look_for-found.new.pass c.close_peek.new.pass c.root_place-at.result.region c.open_peek-first.result c.close_peek.result c.requires.rest
+    (ap (λ (p : Place). p.region) c.root_place-at.ensures.same) c.open_peek-first.ensures.view c.open_peek-first.ensures.others c.look_for-found.ensures.reads c.close_peek.ensures.rest c.close_peek.ensures.told c.close_peek.ensures.others
+    c.if-close_peek-first.false b.0 b.1 false (subst (FindsRoot c.args.table.now.about c.args.pair c.look_for-found.new.pass) c.if-found.false c.look_for-found.ensures.finds)
 
 pub returns-then-found-clause-told : goal.returns-then-found-clause-told
 returns-then-found-clause-told g c =

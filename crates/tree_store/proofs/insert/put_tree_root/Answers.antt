@@ -48,13 +48,12 @@ returns-in-Ok-clause-answered g c =
     let e = c.in-Ok.ensures.put in
     let f = root_read about v tree c.index.result.now c.index-2.result.now range.indexes_fit range.least_slots r.rest.seat.about_is r.rest.seat.sound.nodes r.rest.next_length r.vector r.stands c.index.ensures c.index-2.ensures in
     let caught = e.entry (slots_of about tree) f.stands r.vector.slots in
+    let pair = pair_of about.width c.index.result.now c.index-2.result.now in
+    let stands = root_stands_more about.width about.slots v.known (view u).known _ (slots_of about tree) caught.known f.stands in
     let named : RootIsNamed part store (slots_of about tree) c.in-Ok.fresh c.in-Ok.id p (record u { last_tree = u.next_tree; next_tree = u.last_tree; has_last = true }) = record {
       call_is = caught;
-      root = record {
-        pair = pair_of about.width c.index.result.now c.index-2.result.now;
-        there = e.root;
-        stands = root_stands_more about.width about.slots v.known (view u).known _ (slots_of about tree) caught.known f.stands;
-      };
+      root = record { pair = pair; there = e.root; stands = stands };
+      looked = (pair, stands, c.in-Ok.ensures.looked);
       tree = becomes_last p u e.buffers;
     } in
     of_naming part store (slots_of about tree) c.in-Ok.fresh c.in-Ok.id c.reply.result p c.keep_tree.new.pass c.reply.ensures
@@ -71,8 +70,11 @@ returns-in-Err-clause-answered g c =
     let u = view c.look_or_put.new.pass in
     let e = c.in-Err.ensures.refused in
     let f = root_read about v tree c.index.result.now c.index-2.result.now range.indexes_fit range.least_slots r.rest.seat.about_is r.rest.seat.sound.nodes r.rest.next_length r.vector r.stands c.index.ensures c.index-2.ensures in
+    let pair = pair_of about.width c.index.result.now c.index-2.result.now in
+    let stands = root_stands_more about.width about.slots v.known u.known _ (slots_of about tree) e.no_call.known f.stands in
     record {
       no_call = e.no_call;
-      blocked = (pair_of about.width c.index.result.now c.index-2.result.now, root_stands_more about.width about.slots v.known u.known _ (slots_of about tree) e.no_call.known f.stands, e.full);
+      blocked = (pair, stands, e.full);
+      looked = (pair, stands, c.in-Err.ensures.looked);
       buffers = e.buffers;
     }

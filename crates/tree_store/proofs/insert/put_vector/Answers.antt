@@ -45,6 +45,7 @@ returns-in_default-clause-answered g c =
     let refused = as_filled about v c.args.from_last p q (λ last l u. Refused about l (puts_after about last l) u (view now)) f.tree vector e.full in
     record {
       refused = refused;
+      no_look = refused.grown.root;
       last_stays = last_kept p now (ap (λ x. x.has_last) e.keeps ∙ ap (λ x. x.has_last) f.tree) (ap (λ x. x.last_tree) e.keeps ∙ ap (λ x. x.last_tree) f.tree) refused.grown.about;
       for_good = inside_never_named g.D.Part.RootPart.part store now v refused.blocked;
     }
