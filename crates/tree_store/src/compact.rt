@@ -72,7 +72,13 @@ impl<const W: u32, const F: u32> TreeStore<CompactRoot<W, F>, W, F> {
         ensures ticks { AreTicked (puts_after self.now.about (last_vector pass.old) vector.now) result
             (L.count steps.old) (L.count steps.new) }
     {
-        insert_from_last(&CompactTable::over(rt, self.nodes()), self, pass, vector, steps)
+        insert_from_last(
+            &CompactTable::over(rt, self.nodes()),
+            self,
+            pass,
+            vector,
+            steps,
+        )
     }
 
     /// As `read` of a plain store. It waits for nobody: the root's parts are the identifier's own.
