@@ -13,3 +13,4 @@ pub mod Telling
 pub mod TakenLines
 pub mod Working
 pub mod Placing
+pub mod DealtRun

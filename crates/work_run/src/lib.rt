@@ -14,7 +14,7 @@ mod worker;
 mod workers;
 
 pub use lines::{line_of, lines_are_dealt_out};
-pub use run::{puts_are_few, run_lines};
+pub use run::{puts_are_few, run_lines, run_lines_waiting};
 pub use worker::Worker;
 
 #[cfg(test)]

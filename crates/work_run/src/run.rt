@@ -1,6 +1,7 @@
 //! Workers insert the lines of a trace.
 ghost use Rattle.std.specs.Prelude.{◌≡◌, ◌≤◌, ◌^◌, IfOk, OnErr, All, length};
 ghost use Rattle.pair_rule.specs.Rest.{AtRest};
+ghost use Rattle.region_root.specs.Compact.{compact};
 ghost use Rattle.root_plain.specs.Plain.{plain};
 ghost use Rattle.tree_store.specs.Vectors.{IsVector};
 ghost use Rattle.work_run.specs.Workers.{Unused};
@@ -8,14 +9,15 @@ ghost use Rattle.work_run.specs.Ran.{HasRun, FewPuts};
 
 use crate::dealt::Dealt;
 use crate::place::place;
-use crate::task::PlainInsertion;
+use crate::task::{CompactInsertion, PlainInsertion};
 use crate::work::work_at_once;
 use crate::workers::{join_workers, split_workers};
 use std::alloc::Global;
+use std::sync::Wait;
 use std::thread::Threads;
 use tdb_base::{Gate, NoMemory, Reply};
 use trace_csv::Trace;
-use tree_store::{PlainPass, PlainStore};
+use tree_store::{CompactPass, CompactStore, PlainPass, PlainStore};
 
 /// Lets 1 to 64 workers insert the lines of a trace, each with a pass of its own that is split from `pass`
 /// and joined into it again: the reply to each line.
@@ -54,6 +56,43 @@ pub fn run_lines<R: Threads + Sync, G: Gate, const W: u32, const F: u32>(
     let mut replies = Vec::with_capacity(alloc, trace.len() as usize)?;
     let mut all_workers = split_workers(alloc, store, pass, &mut dealing, workers)?;
     let task = PlainInsertion { store };
+    work_at_once(rt, &task, trace, &mut all_workers, gate);
+    place(&all_workers, trace.len(), &dealt, &mut replies);
+    join_workers(store, pass, all_workers);
+    Ok(replies)
+}
+
+/// The same over a compact store, but an insertion may wait for the lock of a root's region. A line is full
+/// only where a pair of its vector's tree has no place then, or its root has none in its region.
+pub fn run_lines_waiting<R: Threads + Wait + Sync, G: Gate, const W: u32, const F: u32>(
+    rt: &R,
+    alloc: Global,
+    store: &CompactStore<W, F>,
+    pass: &mut CompactPass<W, F>,
+    trace: &Trace,
+    workers: u64,
+    block: u64,
+    gate: &G,
+) -> Result<Vec<Reply>, NoMemory>
+    requires rest { AtRest (compact W F) store.now pass.old }
+    requires lines { length trace.now ≤ 2 ^ 32 }
+    requires fit { All (IsVector store.now.about) trace.now }
+    requires workers { (1 ≤ workers) × (workers ≤ 64) }
+    requires block { (1 ≤ block) × (block ≤ 65536) }
+    ensures rest { AtRest (compact W F) store.now pass.new }
+    ensures ran { IfOk result (λ replies.
+        HasRun (compact W F) store.now.about trace.now replies.items workers block pass.old pass.new) }
+    ensures refused { OnErr result (Unused pass.old pass.new) }
+{
+    let dealt = Dealt {
+        lines: trace.len(),
+        workers,
+        block,
+    };
+    let mut dealing = dealt;
+    let mut replies = Vec::with_capacity(alloc, trace.len() as usize)?;
+    let mut all_workers = split_workers(alloc, store, pass, &mut dealing, workers)?;
+    let task = CompactInsertion { rt, store };
     work_at_once(rt, &task, trace, &mut all_workers, gate);
     place(&all_workers, trace.len(), &dealt, &mut replies);
     join_workers(store, pass, all_workers);

@@ -1,15 +1,18 @@
 //! What a worker does with a line.
 ghost use Rattle.std.specs.Prelude.{◌≡◌, ◌∷◌, []};
 ghost use Rattle.pair_rule.specs.Rest.{AtRest};
+ghost use Rattle.region_root.specs.Compact.{compact};
 ghost use Rattle.root_plain.specs.Plain.{plain};
 ghost use Rattle.tree_store.specs.Vectors.{IsVector};
 ghost use Rattle.work_run.specs.Inserted.{Inserted};
 ghost use Rattle.work_run.specs.Telling.{insertion};
 
 use pair_rule::PassOf;
-use root_plain::{PlainTable, Roots};
+use region_root::Regions;
+use root_plain::Roots;
+use std::sync::Wait;
 use tdb_base::{Kept, Reply, Steps};
-use tree_store::{PlainStore, insert_from_last};
+use tree_store::{CompactStore, PlainStore};
 
 /// Inserts lines into a store, and does with their vectors what else is to be done.
 pub(crate) trait Task: Sync {
@@ -78,10 +81,42 @@ impl<'a, const W: u32, const F: u32> Task for PlainInsertion<'a, W, F> {
         ensures { Inserted plain self.now.store.now (line.now ∷ []) (result ∷ [])
             (λ caller. insertion.entries caller line.now result) pass.old pass.new }
     {
-        let store = self.store;
-        let roots = PlainTable::over(store.nodes());
-        insert_from_last(&roots, store, pass, line, steps)
+        self.store.insert_from(pass, line, steps)
     }
 
     ghost refusals = { plain_refusals };
+}
+
+/// A line is inserted into a compact store, and nothing else. By `H` it may wait for the lock of a region.
+#[derive(Drop)]
+pub(crate) struct CompactInsertion<'a, H, const W: u32, const F: u32> {
+    pub(crate) rt: &'a H,
+    pub(crate) store: &'a CompactStore<W, F>,
+}
+
+impl<'a, H: Wait + Sync, const W: u32, const F: u32> Task for CompactInsertion<'a, H, W, F> {
+    ghost use Rattle.region_root.specs.Compact.{compact};
+    ghost use Rattle.region_root.specs.Refused.{compact_refusals};
+    ghost use Rattle.work_run.specs.Telling.{insertion};
+
+    type View = Regions;
+
+    type Answer = Reply;
+
+    ghost part = { compact W F };
+
+    ghost store = { λ t. t.store.now };
+
+    ghost telling = { insertion };
+
+    fn answer(&self, pass: &mut PassOf<Regions>, line: &[u32], steps: &mut Steps<Kept>) -> Reply
+        requires rest { AtRest (compact W F) self.now.store.now pass.old }
+        requires vector { IsVector self.now.store.now.about line.now }
+        ensures { Inserted (compact W F) self.now.store.now (line.now ∷ []) (result ∷ [])
+            (λ caller. insertion.entries caller line.now result) pass.old pass.new }
+    {
+        self.store.insert_from(self.rt, pass, line, steps)
+    }
+
+    ghost refusals = { compact_refusals W F };
 }

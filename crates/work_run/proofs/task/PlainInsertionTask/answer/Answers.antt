@@ -4,5 +4,5 @@ use Rattle.work_run.proofs.task.PlainInsertionTask.answer.Goals as goal
 
 pub returns : goal.returns
 returns g c =
-    let e = c.insert_from_last.ensures in
-    one_inserted plain c.args.self.now.store.now c.args.line.now c.args.pass.now c.insert_from_last.new.pass c.insert_from_last.result c.requires.rest e.rest e.answered
+    let e = c.insert_from.ensures in
+    one_inserted plain c.args.self.now.store.now c.args.line.now c.args.pass.now c.insert_from.new.pass c.insert_from.result c.requires.rest e.rest e.answered
