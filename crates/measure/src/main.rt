@@ -5,9 +5,11 @@ mod clock;
 mod nodes;
 mod read_trace;
 mod region;
+mod roots;
 mod words;
 
 use std::process::ExitCode;
+use std::sync::Wait;
 use std::thread::Threads;
 use std::{env, io};
 use words::{USAGE, number};
@@ -27,7 +29,7 @@ fn main(rt: HostRuntime) -> io::Result<ExitCode> {
 }
 
 // Times what the words ask for, the program's name first. None: they ask for nothing.
-fn time<H: Threads + Sync>(
+fn time<H: Threads + Wait + Sync>(
     rt: &HostRuntime,
     handle: &H,
     words: &[String],
@@ -39,6 +41,7 @@ fn time<H: Threads + Sync>(
         "read-trace" => time_read_trace(rt, words),
         "nodes" => time_nodes(rt, handle, words),
         "region" => time_region(rt, words),
+        "roots" => time_roots(rt, handle, words),
         _ => Ok(None),
     }
 }
@@ -84,4 +87,36 @@ fn time_region(rt: &HostRuntime, words: &[String]) -> io::Result<Option<ExitCode
         return Ok(None);
     }
     Ok(Some(region::time(rt, exponent as u32, fill, rounds)?))
+}
+
+fn time_roots<H: Wait>(
+    rt: &HostRuntime,
+    handle: &H,
+    words: &[String],
+) -> io::Result<Option<ExitCode>> {
+    let Some(tables) = number(words, 2, 1, 3, 3) else {
+        return Ok(None);
+    };
+    let Some(region) = number(words, 3, 6, 12, 8) else {
+        return Ok(None);
+    };
+    let Some(fill) = number(words, 4, 0, 100, 50) else {
+        return Ok(None);
+    };
+    let Some(puts) = number(words, 5, 0, 1000, 1) else {
+        return Ok(None);
+    };
+    let Some(looks) = number(words, 6, 0, 1000, 1) else {
+        return Ok(None);
+    };
+    if words.len() > 7 {
+        return Ok(None);
+    }
+    let asked = roots::Asked {
+        region: region as u32,
+        fill,
+        puts,
+        looks,
+    };
+    Ok(Some(roots::time(rt, handle, tables % 2 == 1, tables >= 2, asked)?))
 }

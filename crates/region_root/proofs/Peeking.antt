@@ -18,7 +18,7 @@ use Rattle.region_root.specs.declared.root.Regions.{Regions}
 use Rattle.region_root.specs.declared.root.Reading.{Reading}
 use Rattle.region_root.specs.Layout.{words_each, region_of, KeepsRoots}
 use Rattle.region_root.specs.Maps.{InRegion}
-use Rattle.region_root.specs.Compact.{IsEven, IsOdd, last, Unchanged, LoadsTell, Looked, compact}
+use Rattle.region_root.specs.Compact.{IsEven, IsOdd, last, Unchanged, Looked, compact}
 use Rattle.region_root.specs.Plays.{Told, reading, peeking, reloaded, seconded, Believes, Closed}
 use Rattle.region_root.specs.Told.{FindsRoot, RootAbsent, RootChanged}
 use Rattle.region_root.specs.Work.{HasLoaded, ReadsOn}

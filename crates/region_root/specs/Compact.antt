@@ -1,8 +1,8 @@
 -- The rule of a compact root table: a free region's words keep the map of its names; a held one's are the
 -- holder's copy; and a reader may believe what it loaded, where the lock word is still what it was.
 use Rattle.cleary_core.specs.Cells.{width as cell_bits}
-use Rattle.std.specs.Prelude.{◌≡◌, ◌≢◌, ℕ, suc, ◌+◌, ◌*◌, ◌/◌, ◌<◌, ◌≤◌, ◌⊎◌, List, [], ◌∷◌, map, length, Bool}
-use Rattle.std.specs.Prelude.{false, slice_index, Some, MatchBool}
+use Rattle.std.specs.Prelude.{◌≡◌, ◌≢◌, ℕ, suc, ◌+◌, ◌*◌, ◌/◌, ◌<◌, ◌≤◌, ◌⊎◌, List, [], ◌∷◌, map, length}
+use Rattle.std.specs.Prelude.{Bool, false, slice_index, Some, MatchBool}
 use mathlib.Core.Option.{some}
 use lib.ListN.{get_elem?}
 use Rattle.tree_shape.specs.Tree.{Has}
@@ -100,8 +100,8 @@ pub record Housed (about : About) (roots : List (ℕ × ℕ)) : Type 0 where
   pub itself : (id pair : ℕ) → Has (id, pair) roots → (pair ≡ id) × IsPacked about id
   pub few : FewEach about roots
 
--- The lock word was the same at both looks of a reader: even, and not its last even value. So no other call held
--- the region between them.
+-- The lock word was the same at both looks of a reader: even, and not its last even value. So no other call
+-- held the region between them.
 pub record Unchanged (n : ℕ) (q : Reading) : Type 0 where
   pub same : n ≡ q.first
   pub even : IsEven n
@@ -111,16 +111,16 @@ pub record Unchanged (n : ℕ) (q : Reading) : Type 0 where
 abbrev pub LockChanged : Reading → Type 0
 LockChanged q = (IsOdd q.first ⊎ (q.first ≡ last)) ⊎ (q.second ≢ q.first)
 
--- What was loaded decides of the root x: whatever words of its region have it at its places and keep some map,
--- the answer says whether that map has the root.
+-- What was loaded decides of the root x: whatever words of its region have it at its places and keep some
+-- map, the answer says whether that map has the root.
 abbrev pub LoadsTell : About → ℕ → List (ℕ × ℕ) → Bool → Type 0
 LoadsTell about x loads answer = (words : List ℕ) (map : List (ℕ × ℕ)) → length words ≡ words_each about
     → ((i n : ℕ) → Has (i, n) loads → slice_index words i ≡ n) → KeepsRoots about words map
     → InRegion about (region_of about x) map
     → MatchBool answer ((flags : ℕ) × Has (x, flags) map) ((flags : ℕ) → Has (x, flags) map → ⊥)
 
--- One region was read once without its lock, where the root x was wanted. It was found, or found to be absent, by
--- what was loaded while no other call held the region; or it was not found, since the lock word changed.
+-- One region was read once without its lock, where the root x was wanted. It was found, or found to be absent,
+-- by what was loaded while no other call held the region; or it was not found, since the lock word changed.
 pub record Looked (about : About) (x : ℕ) (found : Bool) (t u : Regions) : Type 0 where
   pub reader : Reading
   pub knows : u ≡ record t { reader = reader ∷ []; peeks = suc t.peeks }

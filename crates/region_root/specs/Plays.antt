@@ -1,5 +1,5 @@
 -- What the steps on lock words and on regions' words tell.
-use Rattle.std.specs.Prelude.{◌≡◌, ◌≢◌, ℕ, suc, ◌+◌, ◌-◌, ◌<◌, ◌⊎◌, List, [], ◌∷◌, length, true, false}
+use Rattle.std.specs.Prelude.{◌≡◌, ◌≢◌, ℕ, suc, ◌+◌, ◌-◌, ◌⊎◌, List, [], ◌∷◌, length, true, false}
 use Rattle.std.specs.Prelude.{Option}
 use Rattle.std.specs.Prelude.{Some, None, slice_index, slice_set}
 use Rattle.atomic_table.specs.Table.{Me, Step}
@@ -15,7 +15,7 @@ use Rattle.region_root.specs.declared.root.Holding.{Holding}
 use Rattle.region_root.specs.declared.root.Reading.{Reading}
 use Rattle.region_root.specs.Layout.{words_each, start, region_of, IsPacked, KeepsRoots}
 use Rattle.region_root.specs.Maps.{IsMapOf, Acts, InRegion}
-use Rattle.region_root.specs.Compact.{IsEven, last, Unchanged, compact}
+use Rattle.region_root.specs.Compact.{last, Unchanged, compact}
 
 -- the root part of a table that is about this
 abbrev pub part_of : About → Part Regions

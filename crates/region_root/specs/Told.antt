@@ -1,5 +1,5 @@
 -- What the calls on a compact store's roots leave of a pass, beside what they leave in every store.
-use Rattle.std.specs.Prelude.{◌≡◌, ◌≢◌, ℕ, suc, ◌⊎◌, List, [], ◌∷◌, length, Bool, true, false, Some, None}
+use Rattle.std.specs.Prelude.{◌≡◌, ℕ, List, [], ◌∷◌, length, Bool, true, false, Some, None}
 use Rattle.std.specs.Prelude.{Result, MatchResult, MatchBool, Option, option_map}
 use Rattle.tree_shape.specs.Tree.{Has, RootStands}
 use Rattle.tdb_base.specs.Fakes.{counted}

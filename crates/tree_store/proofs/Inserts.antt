@@ -2,7 +2,7 @@
 use Rattle.std.proofs.Common.{◌≡◌, ℕ, ◌+◌, ◌-◌, ◌*◌, List, [], ◌∷◌, length, drop, get_or, Bool, Option, Some, None, true, false, sym, ap, ◌∙◌, subst, arith}
 use Rattle.std.specs.Prelude.{if◌then◌else◌}
 use Rattle.std.proofs.lemmas.List.{get_or-drop}
-use Rattle.tree_shape.specs.Tree.{Has, IsPart, RootStands, slot}
+use Rattle.tree_shape.specs.Tree.{Has, IsPart, slot}
 use Rattle.tdb_base.specs.History.{Vector, History, name_of, calls}
 use Rattle.tdb_base.specs.Legal.{IsLegal, Extends}
 use Rattle.tdb_base.proofs.NameLemmas.{entry-named}

@@ -57,8 +57,8 @@ module _ {T : Type 0} (part : Part T) where
   abbrev pub HasBlockedRoot : About → View T → Vector → Type 0
   HasBlockedRoot about v vector = IsBlockedRoot about v.known (part.is_full about (root_pairs part v)) vector
 
-  -- How the answer about a vector came: one look was made for a root pair that stands for it; and the root was
-  -- put by one call, only where that look did not find it.
+  -- How the answer about a vector came: one look was made for a root pair that stands for it; and the root
+  -- was put by one call, only where that look did not find it.
   abbrev pub LooksAndPuts : About → Vector → View T → View T → Type 0
   LooksAndPuts about vector v w = (pair : ℕ) × RootStands about.width about.slots w.known pair vector
       × IsPutAfterLook part about pair v.root w.root
@@ -97,8 +97,8 @@ module _ {T : Type 0} (part : Part T) (store : Store) (last : Option Vector) (ve
     pub nodes : Gained store.about vector (puts_after store.about last vector) (view old) (view new)
     pub probes : (view new).probes ≡ (view old).probes + puts_after store.about last vector
 
-  -- some pair inside the vector's tree has no place: no call was made, no look for a root, and the vector gets
-  -- no name for good
+  -- some pair inside the vector's tree has no place: no call was made and no look for a root, and the vector
+  -- gets no name for good
   pub record IsFullInside (old new : PassOf T) : Type 0 where
     pub refused : Refused store.about vector (puts_after store.about last vector) (view old) (view new)
     pub no_look : (view new).root ≡ (view old).root

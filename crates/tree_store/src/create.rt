@@ -57,8 +57,9 @@ impl<R: RootPart<W, F>, const W: u32, const F: u32> TreeStore<R, W, F> {
     ///
     /// The nodes have `2^nodes` buckets with `nodes` from 3 to 25 and at most `W`, and `probe` is 1 to
     /// 4194304. What `roots` and `region` may be is the root table's: plain ones have `2^roots` buckets with
-    /// `roots` from 3 to 24, and don't look at `region`. `CreateError::Sizes` says which size is the first
-    /// out of its range, and comes before `NoMemory`.
+    /// `roots` from 3 to 24, and don't look at `region`; compact ones have `2^roots` cells with `roots` from 6
+    /// to 24 and below `2W`, in regions of `2^region` cells with `region` from 6 to 12 and at most `roots`.
+    /// `CreateError::Sizes` says which size is the first out of its range, and comes before `NoMemory`.
     pub fn create(
         alloc: Global,
         shape: Shape,

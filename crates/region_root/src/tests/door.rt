@@ -6,7 +6,7 @@ ghost use Rattle.region_root.specs.Compact.{compact};
 
 use super::{Store, StorePass, store, zeros};
 use crate::CompactTable;
-use pair_nodes::{RootTable, look_or_put};
+use pair_nodes::{RootNames, RootTable, look_or_put};
 use std::process::Abort;
 use std::sync::Wait;
 use std::test::Fail;
