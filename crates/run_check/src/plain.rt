@@ -9,6 +9,8 @@ ghost use Rattle.run_check.specs.Reached.{Line, owner};
 ghost use Rattle.run_check.specs.Sentences.{IsFirstTwice, IsFullNamed, IsLone, IsSecond};
 ghost use Rattle.run_check.specs.Sentences.{IsTwice, IsVerdict, IsYesWhereHistory, NoTwice};
 
+pub mod search;
+
 use crate::verdict::Verdict;
 use std::alloc::{AllocError, Global};
 use tdb_base::Reply;

@@ -2,6 +2,7 @@
 //! computed apart from the program, by a script of the hash, the probe path and the tree.
 ghost use Rattle.std.specs.Prelude.{◌<◌};
 
+mod changed;
 mod checks;
 mod distinct;
 mod faults;

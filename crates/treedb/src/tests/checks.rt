@@ -210,7 +210,7 @@ fn a_verdict_meets_faults(rt: HostRuntime) -> Result<(), Fail> {
 }
 
 // 200 lines of two slots, each of which is one of 60 vectors.
-fn lines_of(alloc: Global) -> Result<Vec<u8>, Fail> {
+pub(super) fn lines_of(alloc: Global) -> Result<Vec<u8>, Fail> {
     let mut text = Vec::new(alloc);
     for i in 0..200u32 {
         let at = i % 60;
@@ -221,7 +221,7 @@ fn lines_of(alloc: Global) -> Result<Vec<u8>, Fail> {
 }
 
 // These lines, and this program's report of them by so many workers.
-fn own_run<R: Threads + Sync>(
+pub(super) fn own_run<R: Threads + Sync>(
     rt: &R,
     alloc: Global,
     workers: &str,
