@@ -67,7 +67,7 @@ abbrev pub size_in : ℕ → ℕ → Option Text → Option (Option ℕ)
 size_in low high None = Some None
 size_in low high (Some t) = given (number_in low high t) (λ n. Some (Some n))
 
--- a flag that is given has the value `true`
+-- a flag_rule that is given has the value `true`
 abbrev pub is_given : Option Text → Bool
 is_given o = option_map_or (λ t. bytes_eq t (codes "true")) o false
 

@@ -9,8 +9,8 @@ abbrev pub required_word : Text → Rule
 required_word id = record (new_rule id) { required = true; action = Some Set }
 
 -- `--name`
-abbrev pub flag : Text → Rule
-flag name = record (new_rule name) { long = Some name; action = Some SetTrue }
+abbrev pub flag_rule : Text → Rule
+flag_rule name = record (new_rule name) { long = Some name; action = Some SetTrue }
 
 -- `--name TEXT`, with the text that stands for it where it isn't given
 abbrev pub text_option : Text → Text → Rule
@@ -32,7 +32,7 @@ task_words =
     required_word (codes "job")
     ∷ text_option (codes "mode") (codes "plain")
     ∷ text_option (codes "profile") (codes "28")
-    ∷ flag (codes "stats")
+    ∷ flag_rule (codes "stats")
     ∷ []
 
 -- how the lines are shared out

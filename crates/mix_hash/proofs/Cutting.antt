@@ -2,7 +2,7 @@
 use Rattle.std.proofs.Common.{◌≡◌, ℕ, ◌+◌, ◌-◌, ◌*◌, ◌/◌, ◌%◌, ◌^◌, ◌<◌, ◌≤◌, bit_or, sym, ap, ◌∙◌, subst, arith}
 use Rattle.std.proofs.lemmas.Nat.{shr_split, shr_below, shl_whole, or_shifted, pow-add, pow_pos, mod_below, shr_high, mod_low, mul-add-lt}
 use Rattle.mix_hash.specs.declared.Place.{Place}
-use Rattle.mix_hash.specs.Places.{place_of, hash_of, IsInRange}
+use Rattle.mix_hash.specs.Places.{place_of, hash_of, IsPlaceInRange}
 
 power_split : (high low : ℕ) → low ≤ high → 2 ^ high ≡ 2 ^ low * 2 ^ (high - low)
 power_split high low h = let e : high ≡ low + (high - low) = omega arith in ap (λ n. 2 ^ n) e ∙ pow-add 2 low (high - low)
@@ -26,7 +26,7 @@ same_place a b region home quotient =
     ∙ ap (λ x. let y : Place = record { region = b.region; home = b.home; quotient = x } in y) quotient
 
 -- a cut's parts are in range
-pub place_of-in_range : (w r s h : ℕ) → s ≤ r → r ≤ 2 * w → h < 2 ^ (2 * w) → IsInRange w r s (place_of r s h)
+pub place_of-in_range : (w r s h : ℕ) → s ≤ r → r ≤ 2 * w → h < 2 ^ (2 * w) → IsPlaceInRange w r s (place_of r s h)
 place_of-in_range w r s h small table fits = record {
   region = cut_below (h % 2 ^ r) r s small (mod_below h (2 ^ r) (pow_pos r));
   home = mod_below (h % 2 ^ r) (2 ^ s) (pow_pos s);
@@ -41,7 +41,7 @@ hash_of-place_of r s h = ap (λ n. h / 2 ^ r * 2 ^ r + n) (shr_split (h % 2 ^ r)
 pub place_of-one_to_one : (r s g h : ℕ) → place_of r s g ≡ place_of r s h → g ≡ h
 place_of-one_to_one r s g h same = sym (hash_of-place_of r s g) ∙ ap (λ p. hash_of r s p) same ∙ hash_of-place_of r s h
 
-module _ (w r s : ℕ) (narrow : w ≤ 31) (small : s ≤ r) (table : r ≤ 2 * w) (place : Place) (in_range : IsInRange w r s place) where
+module _ (w r s : ℕ) (narrow : w ≤ 31) (small : s ≤ r) (table : r ≤ 2 * w) (place : Place) (in_range : IsPlaceInRange w r s place) where
   -- the home among all homes of the table
   abbrev pub whole_home : ℕ
   whole_home = place.region * 2 ^ s + place.home

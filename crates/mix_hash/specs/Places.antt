@@ -19,7 +19,7 @@ abbrev pub hash_of : ℕ → ℕ → Place → ℕ
 hash_of r s place = place.quotient * 2 ^ r + (place.region * 2 ^ s + place.home)
 
 -- a place that a hash of 2 * w bits can have
-pub record IsInRange (w r s : ℕ) (place : Place) : Type 0 where
+pub record IsPlaceInRange (w r s : ℕ) (place : Place) : Type 0 where
   pub region : place.region < 2 ^ (r - s)
   pub home : place.home < 2 ^ s
   pub quotient : place.quotient < 2 ^ (2 * w - r)

@@ -7,7 +7,7 @@
 
 ghost use Rattle.std.specs.Prelude.{◌≡◌, ℕ, ◌+◌, ◌-◌, ◌*◌, ◌/◌, ◌%◌, ◌^◌, ◌<◌, ◌≤◌};
 ghost use Rattle.mix_hash.specs.Hash.{folded, scaled, mix_of, IsOneToOneBelow, IsOntoBelow};
-ghost use Rattle.mix_hash.specs.Places.{place_of, hash_of, IsInRange};
+ghost use Rattle.mix_hash.specs.Places.{place_of, hash_of, IsPlaceInRange};
 
 const FIRST_MULTIPLIER: u64 = 0x9E37_79B9_7F4A_7C15;
 
@@ -107,7 +107,7 @@ pub fn split<const W: u32>(h: u64, r: u32, s: u32) -> Place
     requires table { (r ≤ 24) × (r ≤ 2 * W) }
     ensures place { result ≡ place_of r s h }
     ensures parts { hash_of r s result ≡ h }
-    ensures in_range { IsInRange W r s result }
+    ensures in_range { IsPlaceInRange W r s result }
 {
     let global_home = low_bits(h, r);
     let (region, home) = (global_home >> s, low_bits(global_home, s));
@@ -123,7 +123,7 @@ pub fn split<const W: u32>(h: u64, r: u32, s: u32) -> Place
 #[inline]
 pub fn unsplit<const W: u32>(place: &Place, r: u32, s: u32) -> u64
     requires width { (1 ≤ W) × (W ≤ 31) }
-    requires in_range { IsInRange W r s place.now }
+    requires in_range { IsPlaceInRange W r s place.now }
     requires region { (6 ≤ s) × (s ≤ r) }
     requires table { (r ≤ 24) × (r ≤ 2 * W) }
     ensures parts { result ≡ hash_of r s place.now }

@@ -6,7 +6,7 @@ use lib.Bits.{bit_and}
 use Rattle.std.proofs.lemmas.Nat.{pow_pos, mod_below, pow_below, or_lt, shr-shr, shr_split, shr_below, and_le_l}
 use Rattle.std.proofs.lemmas.Nat.Bits.{bit_at-suc, bit_at_and, bit_at_or, bit_at_not, bit_at-lt, bit_at-pow_same, bit_at-pow_other, same_from_bits_below, bit_at_cat_low, bit_at_cat_high}
 use Rattle.std.proofs.lemmas.Bool.{cases_lt, cases_eq}
-use Rattle.packed_word.specs.Word.{IsLayout, right_of, left_of, flags_of, above_flags, with_bit, without_bit, ChangesFlags}
+use Rattle.packed_word.specs.Word.{IsLayout, right_of, left_of, flag_bits, above_flags, with_bit, without_bit, ChangesFlags}
 use Rattle.packed_word.proofs.FieldBits.{bit_at_mod, bit_at_shr}
 
 top : (x y : ℕ) → x < 2 → y ≡ 1 → max x y ≡ 1
@@ -76,13 +76,13 @@ cleared_elsewhere n k i other = ⊎_elim
     (λ (from : k ≤ i). let e : k + suc (i - k - 1) ≡ i = omega arith in subst (λ (m : ℕ). bit_at (without_bit n k) m ≡ bit_at n m) e (cleared_above n k (i - k - 1)))
     (cases_lt i k)
 
-pub flag_bit : (width flags i word : ℕ) → i < flags → bit_at (flags_of width flags word) i ≡ bit_at word (2 * width + i)
+pub flag_bit : (width flags i word : ℕ) → i < flags → bit_at (flag_bits width flags word) i ≡ bit_at word (2 * width + i)
 flag_bit width flags i word h = bit_at_mod (word / 2 ^ (2 * width)) flags i h ∙ bit_at_shr word (2 * width) i
 
 -- a word in which one flag changed
 module _ (width flags b old new after : ℕ) (layout : IsLayout width flags) (h : b < flags)
     (here : bit_at new (2 * width + b) ≡ bit_at after b) (elsewhere : (i : ℕ) → i < 64 → i ≢ 2 * width + b → bit_at new i ≡ bit_at old i)
-    (small_old : old < 2 ^ 64) (small : new < 2 ^ 64) (fits : after < 2 ^ flags) (others : (i : ℕ) → i ≢ b → bit_at after i ≡ bit_at (flags_of width flags old) i) where
+    (small_old : old < 2 ^ 64) (small : new < 2 ^ 64) (fits : after < 2 ^ flags) (others : (i : ℕ) → i ≢ b → bit_at after i ≡ bit_at (flag_bits width flags old) i) where
   same_right : right_of width new ≡ right_of width old
   same_right = same_from_bits_below width (right_of width new) (right_of width old) (mod_below new (2 ^ width) (pow_pos width)) (mod_below old (2 ^ width) (pow_pos width))
       (λ i lt. bit_at_mod new width i lt ∙ elsewhere i (omega arith) (omega arith) ∙ sym (bit_at_mod old width i lt))
@@ -100,7 +100,7 @@ module _ (width flags b old new after : ℕ) (layout : IsLayout width flags) (h 
   same_rest = same_from_bits_below (64 - (2 * width + flags)) (above_flags width flags new) (above_flags width flags old) (rest_below new small) (rest_below old small_old)
       (λ i lt. bit_at_shr new (2 * width + flags) i ∙ elsewhere (2 * width + flags + i) (omega arith) (omega arith) ∙ sym (bit_at_shr old (2 * width + flags) i))
 
-  same_flag : (i : ℕ) → i < flags → bit_at (flags_of width flags new) i ≡ bit_at after i
+  same_flag : (i : ℕ) → i < flags → bit_at (flag_bits width flags new) i ≡ bit_at after i
   same_flag i lt = flag_bit width flags i new lt ∙ ⊎_elim
       (λ (it : i ≡ b). subst (λ (j : ℕ). bit_at new (2 * width + j) ≡ bit_at after j) (sym it) here)
       (λ (other : i ≡ b → ⊥). elsewhere (2 * width + i) (omega arith) (omega arith) ∙ sym (flag_bit width flags i old lt) ∙ sym (others i other))
@@ -113,12 +113,12 @@ module _ (width flags b old new after : ℕ) (layout : IsLayout width flags) (h 
     present = elsewhere 63 (omega arith) (omega arith);
     above = same_rest;
     small = small;
-    flags_after = same_from_bits_below flags (flags_of width flags new) after (mod_below (new / 2 ^ (2 * width)) (2 ^ flags) (pow_pos flags)) fits same_flag;
+    flags_after = same_from_bits_below flags (flag_bits width flags new) after (mod_below (new / 2 ^ (2 * width)) (2 ^ flags) (pow_pos flags)) fits same_flag;
   }
 
-pub sets_flag : (width flags b word : ℕ) → IsLayout width flags → b < flags → word < 2 ^ 64 → ChangesFlags width flags word (bit_or word (2 ^ (2 * width + b))) (with_bit (flags_of width flags word) b)
+pub sets_flag : (width flags b word : ℕ) → IsLayout width flags → b < flags → word < 2 ^ 64 → ChangesFlags width flags word (bit_or word (2 ^ (2 * width + b))) (with_bit (flag_bits width flags word) b)
 sets_flag width flags b word layout h small =
-    let f : ℕ = flags_of width flags word in
+    let f : ℕ = flag_bits width flags word in
     flags_change width flags b word (with_bit word (2 * width + b)) (with_bit f b) layout h
     (set_here word (2 * width + b) ∙ sym (set_here f b))
     (λ i below other. set_elsewhere word (2 * width + b) i other)
@@ -126,9 +126,9 @@ sets_flag width flags b word layout h small =
     (or_lt flags f (2 ^ b) (mod_below (word / 2 ^ (2 * width)) (2 ^ flags) (pow_pos flags)) (pow_below b flags h))
     (λ i other. set_elsewhere f b i other)
 
-pub clears_flag : (width flags b word : ℕ) → IsLayout width flags → b < flags → word < 2 ^ 64 → ChangesFlags width flags word (bit_and word (bit_not w64 (2 ^ (2 * width + b)))) (without_bit (flags_of width flags word) b)
+pub clears_flag : (width flags b word : ℕ) → IsLayout width flags → b < flags → word < 2 ^ 64 → ChangesFlags width flags word (bit_and word (bit_not w64 (2 ^ (2 * width + b)))) (without_bit (flag_bits width flags word) b)
 clears_flag width flags b word layout h small =
-    let f : ℕ = flags_of width flags word in
+    let f : ℕ = flag_bits width flags word in
     let fits : f < 2 ^ flags = mod_below (word / 2 ^ (2 * width)) (2 ^ flags) (pow_pos flags) in
     flags_change width flags b word (bit_and word (bit_not w64 (2 ^ (2 * width + b)))) (without_bit f b) layout h
     (masked_here word (2 * width + b) (omega arith) ∙ sym (cleared_here f b))

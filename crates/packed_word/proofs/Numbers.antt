@@ -5,7 +5,7 @@ use Rattle.std.specs.Int.RustNames.{bit_or}
 use lib.Bits.{bit_and}
 use Rattle.std.proofs.lemmas.Nat.{pow_pos, pow-add, mod-pow-add, mod_below, mul-add-lt, shr-shr, shr_split, shr_high, mod_low, field_of, or_lt, pow_below}
 use Rattle.std.proofs.Math.Pow.{pow_mono}
-use Rattle.packed_word.specs.Word.{IsLayout, right_of, left_of, flags_of, above_flags, with_bit, without_bit, word_of, IsWordOf, ChangesFlags}
+use Rattle.packed_word.specs.Word.{IsLayout, right_of, left_of, flag_bits, above_flags, with_bit, without_bit, word_of, IsWordOf, ChangesFlags}
 use Rattle.packed_word.proofs.Parts.{split_power, kept_pair}
 use Rattle.packed_word.proofs.Flags.{sets_flag, clears_flag}
 
@@ -37,7 +37,7 @@ module _ (width flags value pair : ℕ) (layout : IsLayout width flags) (h : val
   the_left : left_of width word ≡ pair / 2 ^ width
   the_left = let e : width + width ≡ 2 * width = omega arith in sym (field_of word width width) ∙ ap (λ n. word % 2 ^ n / 2 ^ width) e ∙ ap (λ n. n / 2 ^ width) the_pair
 
-  the_flags : flags_of width flags word ≡ value
+  the_flags : flag_bits width flags word ≡ value
   the_flags = ap (λ n. n % 2 ^ flags) (the_high ∙ by_flags) ∙ mod_low (2 ^ (63 - (2 * width + flags))) flags value h
 
   the_rest : above_flags width flags word ≡ 2 ^ (63 - (2 * width + flags))
@@ -55,13 +55,13 @@ module _ (width flags value pair : ℕ) (layout : IsLayout width flags) (h : val
   has_parts = let top = below_top in record { right = the_right; left = the_left; flags_are = the_flags; present = omega arith; above = the_rest; small = omega arith }
 
 -- a word is its parts
-whole_of : (width flags n : ℕ) → n ≡ (above_flags width flags n * 2 ^ flags + flags_of width flags n) * 2 ^ (2 * width) + (left_of width n * 2 ^ width + right_of width n)
+whole_of : (width flags n : ℕ) → n ≡ (above_flags width flags n * 2 ^ flags + flag_bits width flags n) * 2 ^ (2 * width) + (left_of width n * 2 ^ width + right_of width n)
 whole_of width flags n =
-    let highs : n / 2 ^ (2 * width) ≡ above_flags width flags n * 2 ^ flags + flags_of width flags n = sym (shr_split (n / 2 ^ (2 * width)) flags) ∙ ap (λ m. m * 2 ^ flags + flags_of width flags n) (shr-shr n (2 * width) flags) in
+    let highs : n / 2 ^ (2 * width) ≡ above_flags width flags n * 2 ^ flags + flag_bits width flags n = sym (shr_split (n / 2 ^ (2 * width)) flags) ∙ ap (λ m. m * 2 ^ flags + flag_bits width flags n) (shr-shr n (2 * width) flags) in
     let lows = kept_pair width n in
     sym (shr_split n (2 * width)) ∙ (λ i. highs i * 2 ^ (2 * width) + lows i)
 
-same_word : (width flags a b : ℕ) → right_of width a ≡ right_of width b → left_of width a ≡ left_of width b → flags_of width flags a ≡ flags_of width flags b → above_flags width flags a ≡ above_flags width flags b → a ≡ b
+same_word : (width flags a b : ℕ) → right_of width a ≡ right_of width b → left_of width a ≡ left_of width b → flag_bits width flags a ≡ flag_bits width flags b → above_flags width flags a ≡ above_flags width flags b → a ≡ b
 same_word width flags a b right left flag rest =
     whole_of width flags a ∙ (λ i. (rest i * 2 ^ flags + flag i) * 2 ^ (2 * width) + (left i * 2 ^ width + right i)) ∙ sym (whole_of width flags b)
 

@@ -6,7 +6,7 @@ use lib.Bits.{bit_and}
 use Rattle.std.proofs.lemmas.Nat.{pow_pos, pow-add, mod-pow-add, mod_below, mul-add-lt, or_disjoint, or_shifted, and_mask, shl_whole, shr_high, mod_low, same_from_place}
 use Rattle.std.proofs.lemmas.Nat.Bits.{and_pow, bit_at_above, bit_at-lt}
 use Rattle.std.proofs.Math.Pow.{pow_mono}
-use Rattle.packed_word.specs.Word.{IsLayout, right_of, left_of, flags_of, pair_of, IsPresent}
+use Rattle.packed_word.specs.Word.{IsLayout, right_of, left_of, flag_bits, pair_of, IsPresent}
 
 -- a power above a number is set in it by adding it
 or_power : (n k : ℕ) → n < 2 ^ k → bit_or n (2 ^ k) ≡ n + 2 ^ k
@@ -53,7 +53,7 @@ module _ (width flags left right : ℕ) (layout : IsLayout width flags) (h : lef
       ap (λ n. n / 2 ^ width % 2 ^ width) whole ∙ ap (λ n. n % 2 ^ width) (shr_high (2 ^ (63 - width) + left) width right k)
       ∙ ap (λ n. (n + left) % 2 ^ width) f ∙ mod_low (2 ^ (63 - 2 * width)) width left h
 
-  pub flags_packed : flags_of width flags (2 ^ 63 + pair_of width left right) ≡ 0
+  pub flags_packed : flag_bits width flags (2 ^ 63 + pair_of width left right) ≡ 0
   flags_packed =
       let e : 2 ^ 63 ≡ 2 ^ (63 - 2 * width) * 2 ^ (2 * width) = split_power 63 (63 - 2 * width) (2 * width) (omega arith) in
       let f : 2 ^ (63 - 2 * width) ≡ 2 ^ (63 - 2 * width - flags) * 2 ^ flags + 0 = split_power (63 - 2 * width) (63 - 2 * width - flags) flags (omega arith) ∙ omega arith in

@@ -1,7 +1,7 @@
 -- The laws of words and of fields.
 use Rattle.std.specs.Prelude.{◌≡◌, ℕ, ◌+◌, ◌*◌, ◌^◌, ◌%◌, ◌<◌, ◌≢◌, List, bit_and, bit_or}
 use Rattle.std.specs.Int.{bit_at, bit_not, w64}
-use Rattle.packed_word.specs.Word.{IsLayout, left_of, right_of, pair_of, flags_of, with_bit, without_bit}
+use Rattle.packed_word.specs.Word.{IsLayout, left_of, right_of, pair_of, flag_bits, with_bit, without_bit}
 use Rattle.packed_word.specs.Word.{word_of, IsWordOf, ChangesFlags}
 use Rattle.packed_word.specs.Slice.{bit, field}
 
@@ -10,14 +10,14 @@ abbrev pub SetsFlag : Type 0
 SetsFlag =
     (width flags b word : ℕ) → IsLayout width flags → b < flags → word < 2 ^ 64
     → ChangesFlags width flags word (bit_or word (2 ^ (2 * width + b)))
-    (with_bit (flags_of width flags word) b)
+    (with_bit (flag_bits width flags word) b)
 
 -- `&` with the complement of a flag's mask clears this flag, and changes nothing else
 abbrev pub ClearsFlag : Type 0
 ClearsFlag =
     (width flags b word : ℕ) → IsLayout width flags → b < flags → word < 2 ^ 64
     → ChangesFlags width flags word (bit_and word (bit_not w64 (2 ^ (2 * width + b))))
-    (without_bit (flags_of width flags word) b)
+    (without_bit (flag_bits width flags word) b)
 
 -- a number that is a word of a pair and flags has these parts
 abbrev pub WordHasParts : Type 0
@@ -54,7 +54,7 @@ ClearsFlagOfWord =
 -- a flag is the bit of the flags' number, and the bit at its place in the word
 abbrev pub FlagIsBit : Type 0
 FlagIsBit =
-    (width flags b word : ℕ) → b < flags → bit_at (flags_of width flags word) b ≡ bit_at word (2 * width + b)
+    (width flags b word : ℕ) → b < flags → bit_at (flag_bits width flags word) b ≡ bit_at word (2 * width + b)
 
 -- to set a bit makes it 1, and leaves each other bit
 abbrev pub SetsBit : Type 0

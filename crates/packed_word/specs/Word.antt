@@ -13,8 +13,8 @@ right_of width word = word % 2 ^ width
 abbrev pub left_of : ℕ → ℕ → ℕ
 left_of width word = word / 2 ^ width % 2 ^ width
 
-abbrev pub flags_of : ℕ → ℕ → ℕ → ℕ
-flags_of width flags word = word / 2 ^ (2 * width) % 2 ^ flags
+abbrev pub flag_bits : ℕ → ℕ → ℕ → ℕ
+flag_bits width flags word = word / 2 ^ (2 * width) % 2 ^ flags
 
 -- what is above the flags: the present bit, and bits that are 0
 abbrev pub above_flags : ℕ → ℕ → ℕ → ℕ
@@ -43,7 +43,7 @@ word_of width value pair = 2 ^ 63 + value * 2 ^ (2 * width) + pair
 pub record ChangesFlags (width flags old new after : ℕ) : Type 0 where
   pub right : right_of width new ≡ right_of width old
   pub left : left_of width new ≡ left_of width old
-  pub flags_after : flags_of width flags new ≡ after
+  pub flags_after : flag_bits width flags new ≡ after
   pub present : bit_at new 63 ≡ bit_at old 63
   pub above : above_flags width flags new ≡ above_flags width flags old
   pub small : new < 2 ^ 64
@@ -52,7 +52,7 @@ pub record ChangesFlags (width flags old new after : ℕ) : Type 0 where
 pub record IsWordOf (width flags value pair word : ℕ) : Type 0 where
   pub right : right_of width word ≡ pair % 2 ^ width
   pub left : left_of width word ≡ pair / 2 ^ width
-  pub flags_are : flags_of width flags word ≡ value
+  pub flags_are : flag_bits width flags word ≡ value
   pub present : IsPresent word
   pub above : above_flags width flags word ≡ 2 ^ (63 - (2 * width + flags))
   pub small : word < 2 ^ 64

@@ -2,7 +2,7 @@
 
 ghost use Rattle.std.specs.Prelude.{◌≡◌, ℕ, ◌+◌, ◌-◌, ◌*◌, ◌/◌, ◌%◌, ◌^◌, ◌<◌, ◌≤◌, ◌↔◌, IsTrue};
 ghost use Rattle.std.specs.Int.{bit_at};
-ghost use Rattle.packed_word.specs.Word.{IsLayout, right_of, left_of, flags_of, IsPresent, pair_of};
+ghost use Rattle.packed_word.specs.Word.{IsLayout, right_of, left_of, flag_bits, IsPresent, pair_of};
 
 // The present bit.
 const PRESENT: u64 = 1 << 63;
@@ -32,7 +32,7 @@ impl<const W: u32, const F: u32> Layout<W, F> {
         ensures number { result ≡ 2 ^ 63 + pair_of W left right }
         ensures left { left_of W result ≡ left }
         ensures right { right_of W result ≡ right }
-        ensures flags { flags_of W F result ≡ 0 }
+        ensures flags { flag_bits W F result ≡ 0 }
         ensures present { IsPresent result }
     {
         left << W | right | PRESENT
@@ -90,7 +90,7 @@ impl<const W: u32, const F: u32> Layout<W, F> {
     #[inline]
     pub fn flags(word: u64) -> u64
         requires { IsLayout W F }
-        ensures { result ≡ flags_of W F word }
+        ensures { result ≡ flag_bits W F word }
     {
         word >> (2 * W) & ones(F)
     }

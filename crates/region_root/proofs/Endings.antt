@@ -13,7 +13,7 @@ use Rattle.pair_rule.proofs.Lists.{has_front, has_back}
 use Rattle.pair_rule.proofs.Names.{root_more}
 use Rattle.pair_rule.proofs.Steps.{named_more}
 use Rattle.region_root.specs.Layout.{region_of, IsPacked}
-use Rattle.region_root.specs.Maps.{roots_of, IsMapOf, flagged}
+use Rattle.region_root.specs.Maps.{roots_of, IsMapOf, with_flag_set}
 use Rattle.region_root.specs.Names.{are_names}
 use Rattle.region_root.specs.Plays.{Ending, deed, Ends, MayEnd}
 use Rattle.region_root.proofs.Maps.{map_other, map_fresh, map_flagged, map_quiet}
@@ -127,7 +127,7 @@ module _ (about : About) (caller : ℕ) (theirs mine : List (ℕ × ℕ)) (log :
         goes_on x act next here_is small_is its s.0 s.1 allowed
         (subst (IsMapOf about g (log ++ deed caller act its x ∷ [])) (sym same) (map_quiet about log (deed caller act its x) allowed legal old f f flags_are after g map refl is_map))
 
-    goes_flagged : (act : Act) (f' : ℕ) (next : List (ℕ × ℕ)) → next ≡ flagged x f' map → is_fresh act ≡ false → flags_after act (Some f) ≡ Some f' → Allows about.flags log its x act
+    goes_flagged : (act : Act) (f' : ℕ) (next : List (ℕ × ℕ)) → next ≡ with_flag_set x f' map → is_fresh act ≡ false → flags_after act (Some f) ≡ Some f' → Allows about.flags log its x act
         → Goes about caller both log g next (Some (x, act))
     goes_flagged act f' next same old after allowed = let s = both_stands its x name_is in
         goes_on x act next here_is small_is its s.0 s.1 allowed

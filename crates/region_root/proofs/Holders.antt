@@ -17,7 +17,7 @@ use Rattle.region_root.specs.declared.root.Holding.{Holding}
 use Rattle.region_root.specs.Layout.{regions, words_each, lock_of, start, part, KeepsRoots, region_of}
 use Rattle.region_root.specs.Maps.{InRegion}
 use Rattle.region_root.specs.Compact.{IsEven, IsOdd, last, Compact}
-use Rattle.region_root.specs.Plays.{part_of, Ending, MayEnd, Told, holding, recopied, IsNext, place_in, Taken, takes_tells, copies_tells, stores_tells, frees_tells}
+use Rattle.region_root.specs.Plays.{part_of, Ending, MayEnd, Told, holding, recopied, IsNextLock, place_in, TakenRegion, takes_tells, copies_tells, stores_tells, frees_tells}
 use Rattle.region_root.proofs.Parts.{part_word, part_long}
 use Rattle.region_root.proofs.Rules.{Moves, takes_root, frees_root, stores_root}
 use Rattle.region_root.proofs.Catching.{head_of, in_region, Rule, behind, first, word_at, behind_set, nodes_stay, catches_up}
@@ -26,10 +26,10 @@ abbrev V : Type 0
 V = View Regions
 
 -- after the unlock: the value is even, and no earlier even value that a reader believes comes again
-next_even : (odd n : ℕ) → IsOdd odd → IsNext odd n → IsEven n
+next_even : (odd n : ℕ) → IsOdd odd → IsNextLock odd n → IsEven n
 next_even o n odd x = ⊎_elim (λ (a : n ≡ suc o). (suc odd.0, let b = odd.1 in omega (arith, a, b))) (λ (b : (o ≡ suc last) × (n ≡ last)). (9223372036854775807, b.1)) x
 
-next_moves : (odd n : ℕ) → IsNext odd n → Moves odd n
+next_moves : (odd n : ℕ) → IsNextLock odd n → Moves odd n
 next_moves o n x f even low le = ⊎_elim
     (λ (a : n ≡ suc o). (omega (arith, a, le), λ z. omega (arith, a, z, le)))
     (λ (b : (o ≡ suc last) × (n ≡ last)). let n_is = b.1 in (omega (arith, n_is, low), λ z. omega (arith, n_is, z, low)))
@@ -71,7 +71,7 @@ module _ (S : Type 0) (about : About) where
       let kept = stays S about (part_of about) (Compact about) s r id me.0 (set s.words (base + g) new) true (record me.0.root { held = h ∷ []; locks = suc me.0.root.locks }) e (length-set s.words (base + g) new, nodes_stay S about s.words g new) refl
       (subst (λ (ws : List ℕ). Compact about r.log ws (set s.views id w)) (sym (behind_set S about s.words g new)) there) in
       let long : length copy ≡ words_each about = part_long about (after s.words) g inside (r.rooted.long ∙ r.rooted.is_about.root_words_are) in
-      let told : Taken g new me.0 w = record {
+      let told : TakenRegion g new me.0 w = record {
         copy = copy;
         base = f.map;
         view_is = refl;
@@ -82,7 +82,7 @@ module _ (S : Type 0) (about : About) where
             let k = f.is_map.each vector i (keeps-names about.flags me.0.seen r.log r.legal (r.each id me.0 e).seen vector i name) (subst (λ (y : About). region_of y i ≡ g) about_is here_g) in
             (k.0, k.2);
       } in
-      (w, keeps, tt, kept, (refl, (λ _. subst (λ (k : ℕ). Taken k new me.0 w) (sym d) told), (λ no. absurd (no z)))))
+      (w, keeps, tt, kept, (refl, (λ _. subst (λ (k : ℕ). TakenRegion k new me.0 w) (sym d) told), (λ no. absurd (no z)))))
       (λ ne. (me.0, keeps, tt, unchanged s id (base + g) me r e, (refl, (λ z. absurd (ne z)), (λ _. refl)))))
 
   -- the holder's load
@@ -113,7 +113,7 @@ module _ (S : Type 0) (about : About) where
       (w, keeps, tt, kept, (refl, λ h' holds'. let z = head_of h h' me.0.root.held holds holds' in subst (λ (u : Holding). w ≡ recopied (set u.copy (place_in me.0.about (base + k) u.region) new) u me.0) z (ap (λ (m : ℕ). recopied (set h.copy m new) h me.0) (sym d)))))
 
   -- its swap, with which its call ends
-  pub frees : (slots id : ℕ) (me : Me S V) (h : Holding) (word new : ℕ) (what : Ending) (next : List (ℕ × ℕ)) → me.0.live ≡ true → me.0.about ≡ about → me.0.root.held ≡ h ∷ [] → base + h.region ≡ word → IsNext h.lock new
+  pub frees : (slots id : ℕ) (me : Me S V) (h : Holding) (word new : ℕ) (what : Ending) (next : List (ℕ × ℕ)) → me.0.live ≡ true → me.0.about ≡ about → me.0.root.held ≡ h ∷ [] → base + h.region ≡ word → IsNextLock h.lock new
       → KeepsRoots about h.copy next → MayEnd about me.0.known h.region h.base what next
       → Allows R slots id me word (λ _. new) (frees_tells what (step slots word new 0 none) me)
   frees slots id me h word new what next live about_is holds is goes_to keep may = subst (λ (w : ℕ). Allows R slots id me w (λ _. new) (frees_tells what (step slots w new 0 none) me)) is (λ s r sl e below.

@@ -13,7 +13,7 @@ use Rattle.cleary_core.specs.Map.{Key, Has as HasKey, IsMap, KeepsMap}
 use Rattle.pair_rule.specs.declared.sizes.About.{About}
 use Rattle.pair_rule.specs.Numbers.{NoRepeats}
 use Rattle.region_root.specs.Layout.{most, place, region_of, IsPacked, key_of, keys_of, cells_of, words_each, region_words, KeepsRoots}
-use Rattle.region_root.specs.Maps.{InRegion, flagged}
+use Rattle.region_root.specs.Maps.{InRegion, with_flag_set}
 use Rattle.region_root.specs.Compact.{IsCompact}
 use Rattle.region_root.specs.Names.{one_place, keys_long, place_in_range}
 use Rattle.region_root.specs.Work.{Added, HasLoaded}
@@ -52,7 +52,7 @@ module _ (about : About) (is : IsCompact about) (g x : ℕ) (here : region_of ab
   is_present m f h = (key_of about x f, key_there about x f m h, refl, refl)
 
   -- a key's flags set are its root's
-  pub keys_flagged_are : (m : List (ℕ × ℕ)) (value : ℕ) → InRegion about g m → keys_flagged (place about x).home (place about x).quotient value (keys_of about m) ≡ keys_of about (flagged x value m)
+  pub keys_flagged_are : (m : List (ℕ × ℕ)) (value : ℕ) → InRegion about g m → keys_flagged (place about x).home (place about x).quotient value (keys_of about m) ≡ keys_of about (with_flag_set x value m)
   keys_flagged_are [] value inside = refl
   keys_flagged_are (r ∷ m) value inside =
       let tail = keys_flagged_are m value (λ y f h. inside y f (inr h)) in

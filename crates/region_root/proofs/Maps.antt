@@ -10,23 +10,23 @@ use Rattle.tdb_base.proofs.NameLemmas.{name-push, names-this, names-differ, same
 use Rattle.pair_rule.specs.declared.sizes.About.{About}
 use Rattle.pair_rule.proofs.Names.{flags_push, fresh_flags, other_flags}
 use Rattle.region_root.specs.Layout.{region_of}
-use Rattle.region_root.specs.Maps.{IsMapOf, flagged}
+use Rattle.region_root.specs.Maps.{IsMapOf, with_flag_set}
 
 -- a map with one root's flags set
-pub in_flagged : (x f : ℕ) (map : List (ℕ × ℕ)) (id k : ℕ) → Has (id, k) map → Has (id, if id == x then f else k) (flagged x f map)
+pub in_flagged : (x f : ℕ) (map : List (ℕ × ℕ)) (id k : ℕ) → Has (id, k) map → Has (id, if id == x then f else k) (with_flag_set x f map)
 in_flagged x f [] id k h = absurd h
 in_flagged x f (r ∷ map) id k h = ⊎_elim
     (λ (e : (id, k) ≡ r). inl (ap (λ (p : ℕ × ℕ). (p.0, if p.0 == x then f else p.1)) e))
     (λ (t : Has (id, k) map). inr (in_flagged x f map id k t))
     h
 
-pub of_flagged : (x f : ℕ) (map : List (ℕ × ℕ)) (id k : ℕ) → Has (id, k) (flagged x f map) → (old : ℕ) × Has (id, old) map × (k ≡ (if id == x then f else old))
+pub of_flagged : (x f : ℕ) (map : List (ℕ × ℕ)) (id k : ℕ) → Has (id, k) (with_flag_set x f map) → (old : ℕ) × Has (id, old) map × (k ≡ (if id == x then f else old))
 of_flagged x f [] id k h = absurd h
 of_flagged x f (r ∷ map) id k h = ⊎_elim
     (λ (e : (id, k) ≡ (r.0, if r.0 == x then f else r.1)).
     let ids : id ≡ r.0 = ap (λ (p : ℕ × ℕ). p.0) e in
     (r.1, inl (λ i. (ids i, r.1)), ap (λ (p : ℕ × ℕ). p.1) e ∙ ap (λ (m : ℕ). if m == x then f else r.1) (sym ids)))
-    (λ (t : Has (id, k) (flagged x f map)). let o = of_flagged x f map id k t in (o.0, inr o.1, o.2))
+    (λ (t : Has (id, k) (with_flag_set x f map)). let o = of_flagged x f map id k t in (o.0, inr o.1, o.2))
     h
 
 -- two maps of one region's names have the same roots with the same flags
@@ -140,7 +140,7 @@ module _ (about : About) (log : History) (e : Entry) (allowed : Allows about.fla
         (λ z. ap (λ (u : Vector). flags_of (log ++ e ∷ []) u) (sym (its_vector v id n z)) ∙ (flags_now ∙ ap (λ (b : Bool). Some (if b then f' else k)) (sym (eq-eqb id e.id z))))
         (λ ne. other_flags log e v (other_vector about.flags log e v id allowed n ne) ∙ (fl ∙ ap (λ (b : Bool). Some (if b then f' else k)) (sym (ne_eqb id e.id ne))))
 
-    pub map_flagged : (g : ℕ) (map : List (ℕ × ℕ)) → IsMapOf about g log map → IsMapOf about g (log ++ e ∷ []) (flagged e.id f' map)
+    pub map_flagged : (g : ℕ) (map : List (ℕ × ℕ)) → IsMapOf about g log map → IsMapOf about g (log ++ e ∷ []) (with_flag_set e.id f' map)
     map_flagged g map m = record {
       each = λ v id n here.
           let before = sym (same_name v) ∙ n in

@@ -15,7 +15,7 @@ use Rattle.region_root.specs.declared.root.Holding.{Holding}
 use Rattle.region_root.specs.declared.root.Reading.{Reading}
 use Rattle.region_root.specs.Layout.{regions, words_each, lock_of, start, part}
 use Rattle.region_root.specs.Maps.{IsMapOf}
-use Rattle.region_root.specs.Compact.{IsEven, IsOdd, last, Holds, Reads, Locks}
+use Rattle.region_root.specs.Compact.{IsEven, IsOdd, last, HoldsRegion, ReadsRegion, Locks}
 
 pub not_both : (n : ℕ) → IsEven n → IsOdd n → ⊥
 not_both n e o = omega (arith, e.1, o.1)
@@ -57,7 +57,7 @@ pub part_long : (about : About) (ws : List ℕ) (g : ℕ) → g < regions about 
 part_long about ws g lt long = let a = start_below about g lt in let b = length-drop (start about g) ws in length-take-le (words_each about) (drop (start about g) ws) (omega (arith, a, b, long))
 
 -- a lock word changes
-pub held_lock : (about : About) (log log' : History) (ws : List ℕ) (g n : ℕ) (h : Holding) → g < regions about → h.region ≢ g → IsMapOf about h.region log' h.base → Holds about log ws h → Holds about log' (set ws g n) h
+pub held_lock : (about : About) (log log' : History) (ws : List ℕ) (g n : ℕ) (h : Holding) → g < regions about → h.region ≢ g → IsMapOf about h.region log' h.base → HoldsRegion about log ws h → HoldsRegion about log' (set ws g n) h
 held_lock about log log' ws g n h inside other base r = record {
   inside = r.inside;
   lock_is = lock_other ws g h.region n other ∙ r.lock_is;
@@ -67,7 +67,7 @@ held_lock about log log' ws g n h inside other base r = record {
   few = r.few;
 }
 
-pub reads_lock : (about : About) (ws : List ℕ) (g n : ℕ) (q : Reading) → g < regions about → g < length ws → ((f : ℕ) → IsEven f → f < last → f ≤ lock_of ws g → (f ≤ n) × (n ≢ f)) → Reads about ws q → Reads about (set ws g n) q
+pub reads_lock : (about : About) (ws : List ℕ) (g n : ℕ) (q : Reading) → g < regions about → g < length ws → ((f : ℕ) → IsEven f → f < last → f ≤ lock_of ws g → (f ≤ n) × (n ≢ f)) → ReadsRegion about ws q → ReadsRegion about (set ws g n) q
 reads_lock about ws g n q inside long moves r = dite (ℕ_discrete q.region g)
     (λ z. let now : lock_of (set ws g n) q.region ≡ n = ap (lock_of (set ws g n)) z ∙ get_or-set_same ws g n 0 long in record {
       inside = r.inside;
@@ -81,7 +81,7 @@ reads_lock about ws g n q inside long moves r = dite (ℕ_discrete q.region g)
     })
 
 -- a word of a region whose lock word is odd changes
-pub held_cell : (about : About) (log : History) (ws : List ℕ) (g i n : ℕ) (h : Holding) → i < words_each about → h.region ≢ g → Holds about log ws h → Holds about log (set ws (start about g + i) n) h
+pub held_cell : (about : About) (log : History) (ws : List ℕ) (g i n : ℕ) (h : Holding) → i < words_each about → h.region ≢ g → HoldsRegion about log ws h → HoldsRegion about log (set ws (start about g + i) n) h
 held_cell about log ws g i n h near other r = record {
   inside = r.inside;
   lock_is = lock_cell about ws g i h.region n r.inside ∙ r.lock_is;
@@ -91,7 +91,7 @@ held_cell about log ws g i n h near other r = record {
   few = r.few;
 }
 
-pub reads_cell : (about : About) (ws : List ℕ) (g i n : ℕ) (q : Reading) → i < words_each about → IsOdd (lock_of ws g) → Reads about ws q → Reads about (set ws (start about g + i) n) q
+pub reads_cell : (about : About) (ws : List ℕ) (g i n : ℕ) (q : Reading) → i < words_each about → IsOdd (lock_of ws g) → ReadsRegion about ws q → ReadsRegion about (set ws (start about g + i) n) q
 reads_cell about ws g i n q near odd r = let now = lock_cell about ws g i q.region n r.inside in record {
   inside = r.inside;
   above = λ even low. let a = r.above even low in omega (arith, a, now);

@@ -16,7 +16,7 @@ use Rattle.region_root.specs.declared.root.Regions.{Regions}
 use Rattle.region_root.specs.declared.root.Reading.{Reading}
 use Rattle.region_root.specs.Layout.{regions, words_each, lock_of, start, part, KeepsRoots}
 use Rattle.region_root.specs.Maps.{IsMapOf, InRegion}
-use Rattle.region_root.specs.Compact.{IsEven, IsOdd, last, Reads, Free, Compact, Unchanged}
+use Rattle.region_root.specs.Compact.{IsEven, IsOdd, last, ReadsRegion, Free, Compact, Unchanged}
 use Rattle.region_root.specs.Laws.{even_or_odd}
 use Rattle.region_root.specs.Plays.{part_of, Ending, MayEnd, reading, peeking, reloaded, seconded, place_in, Believes, Closed, peeks_tells, reads_tells, closes_tells}
 use Rattle.region_root.proofs.Parts.{not_both, part_word, part_long}
@@ -42,14 +42,14 @@ module _ (S : Type 0) (about : About) where
   still s id word v w me r = subst (λ (ws : List ℕ). R record { words = ws; homes = s.homes; views = set s.views id w }) (sym (set-get_or s.words word 0)) r
 
   -- the stepping view reads so
-  reader_is : (s : State S V) (r : R s) (id : ℕ) (v : V) (q : Reading) (peeks : ℕ) → get_elem? s.views id ≡ some v → Reads about (after s.words) q
+  reader_is : (s : State S V) (r : R s) (id : ℕ) (v : V) (q : Reading) (peeks : ℕ) → get_elem? s.views id ≡ some v → ReadsRegion about (after s.words) q
       → R record { words = s.words; homes = s.homes; views = set s.views id (record v { root = record v.root { reader = q ∷ []; peeks = peeks } }) }
   reader_is s r id v q peeks e reads =
       let t : Regions = record v.root { reader = q ∷ []; peeks = peeks } in
       let w : V = record v { root = t } in
       stays S about (part_of about) (Compact about) s r id v s.words v.busy t e (refl, λ k lt. refl) refl
       (quiet_root about r.log r.log (after s.words) s.views id v w r.rooted e (λ k m is. is) r.rooted.packed refl refl
-      (λ q' a. ⊎_elim (λ (z : q' ≡ q). subst (Reads about (after s.words)) (sym z) reads) (λ (no : ⊥). absurd no) a))
+      (λ q' a. ⊎_elim (λ (z : q' ≡ q). subst (ReadsRegion about (after s.words)) (sym z) reads) (λ (no : ⊥). absurd no) a))
 
   -- the first look at a lock word
   pub peeks : (slots id : ℕ) (me : Me S V) (g word x : ℕ) → me.0.about ≡ about → base + g ≡ word → g < regions about
@@ -99,7 +99,7 @@ module _ (S : Type 0) (about : About) where
     abbrev g : ℕ
     g = q.region
 
-    rq : Reads about (after s.words) q
+    rq : ReadsRegion about (after s.words) q
     rq = (r.rooted.each id v e).reads q (subst (Has q) (sym reader) (inl refl))
 
     free : Free about r.log (after s.words) g
@@ -113,7 +113,7 @@ module _ (S : Type 0) (about : About) where
         (λ x. quiet_root about r.log (r.log ++ x.more) (after s.words) s.views id v (catch v r.holder.1 (r.log ++ x.more) v.busy then) r.rooted e
         (λ k m is. dite (ℕ_discrete k g) (λ z. subst (λ (j : ℕ). IsMapOf about j (r.log ++ x.more) m) (sym z) (map_alike about g r.log (r.log ++ x.more) free.map m free.is_map (subst (λ (j : ℕ). IsMapOf about j r.log m) z is) x.here)) (λ ne. x.others k m ne is))
         x.packed refl refl
-        (λ q' a. ⊎_elim (λ (z : q' ≡ record q { second = n }). subst (Reads about (after s.words)) (sym z) record { inside = rq.inside; above = rq.above; same = rq.same }) (λ (no : ⊥). absurd no) a))
+        (λ q' a. ⊎_elim (λ (z : q' ≡ record q { second = n }). subst (ReadsRegion about (after s.words)) (sym z) record { inside = rq.inside; above = rq.above; same = rq.same }) (λ (no : ⊥). absurd no) a))
 
     -- what the reader learns, with the rule
     record Learns : Type 0 where

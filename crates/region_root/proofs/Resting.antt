@@ -19,8 +19,8 @@ use Rattle.region_root.specs.declared.root.Holding.{Holding}
 use Rattle.region_root.specs.declared.root.Reading.{Reading}
 use Rattle.region_root.specs.Layout.{regions, words_each, start, KeepsRoots}
 use Rattle.region_root.specs.Compact.{compact, Compact, Unchanged}
-use Rattle.region_root.specs.Laws.{ids_below}
-use Rattle.region_root.specs.Plays.{part_of, Ending, deed, Ends, MayEnd, Told, seconded, place_in, IsNext, Frees, frees_tells, Believes, Closed, peeks_tells, reads_tells, closes_tells}
+use Rattle.region_root.specs.Laws.{compact_ids_below}
+use Rattle.region_root.specs.Plays.{part_of, Ending, deed, Ends, MayEnd, Told, seconded, place_in, IsNextLock, Frees, frees_tells, Believes, Closed, peeks_tells, reads_tells, closes_tells}
 use Rattle.region_root.specs.Work.{released, gives_name, AtWork}
 use Rattle.region_root.proofs.Holders.{frees}
 use Rattle.region_root.proofs.Readers.{peeks, reads, closes, to_believe}
@@ -71,7 +71,7 @@ module _ (width flags : ℕ) (store : Store) where
 
   -- the holder's unlock
   module _ (h : Holding) (p : PassOf Regions) (w : AtWork width flags store h p) where
-    pub free_allowed : (key : About) (slots word new : ℕ) (what : Ending) (next : List (ℕ × ℕ)) → key ≡ store.about → first_root store.about + h.region ≡ word → IsNext h.lock new → KeepsRoots store.about h.copy next
+    pub free_allowed : (key : About) (slots word new : ℕ) (what : Ending) (next : List (ℕ × ℕ)) → key ≡ store.about → first_root store.about + h.region ≡ word → IsNextLock h.lock new → KeepsRoots store.about h.copy next
         → MayEnd store.about (view p).known h.region h.base what next
         → Allows (StoreRule key ((part_of key).roots key) (Compact key)) slots p.seat.id p.seat.me word (λ _. new) (frees_tells what (step slots word new 0 none) p.seat.me)
     free_allowed key slots word new what next same here goes_to keep may =
@@ -79,7 +79,7 @@ module _ (width flags : ℕ) (store : Store) where
         (frees _ store.about slots p.seat.id p.seat.me h word new what next w.rest.seat.live w.rest.seat.about_is w.held here goes_to keep may)
 
     pub few_names : p.names_count ≤ 4611686018427387904
-    few_names = few_names_given (compact width flags) store ids_below (released p) w.rest
+    few_names = few_names_given (compact width flags) store compact_ids_below (released p) w.rest
 
     pub freed_rests : (q : PassOf Regions) (what : Ending) → IsTable width flags (compact width flags) store → q.seat.table_id ≡ p.seat.table_id → Frees what p.seat.me q.seat.me → q ≡ record p { seat = q.seat; names_count = q.names_count }
         → q.names_count ≡ p.names_count + mark (gives_name what) → AtRest (compact width flags) store q

@@ -16,7 +16,7 @@ use Rattle.region_root.specs.declared.root.Holding.{Holding}
 use Rattle.region_root.specs.declared.root.Reading.{Reading}
 use Rattle.region_root.specs.Layout.{regions, words_each, lock_of, start, part, IsPacked, KeepsRoots}
 use Rattle.region_root.specs.Maps.{IsMapOf}
-use Rattle.region_root.specs.Compact.{IsEven, IsOdd, last, Holds, Reads, held_of, Viewed, Locks, Free, Compact}
+use Rattle.region_root.specs.Compact.{IsEven, IsOdd, last, HoldsRegion, ReadsRegion, held_of, Viewed, Locks, Free, Compact}
 use Rattle.region_root.specs.Names.{kept_few}
 use Rattle.region_root.specs.Laws.{held_there}
 use Rattle.region_root.specs.Plays.{holding, recopied}
@@ -49,7 +49,7 @@ takes_root about log ws views id v g n p e none inside lock even f =
     let h : Holding = record { region = g; lock = suc n; copy = part about ws g; base = f.map } in
     let w = holding h v in
     let long : g < length ws = lock_long about log ws views p g inside in
-    let free : (i : Holding) → Holds about log ws i → i.region ≢ g = λ i r z. not_both n even (subst IsOdd (sym r.lock_is ∙ (ap (lock_of ws) z ∙ lock)) r.odd) in
+    let free : (i : Holding) → HoldsRegion about log ws i → i.region ≢ g = λ i r z. not_both n even (subst IsOdd (sym r.lock_is ∙ (ap (lock_of ws) z ∙ lock)) r.odd) in
     let moves : Moves (lock_of ws g) (suc n) = λ f ef low le. (omega (arith, lock, le), λ z. not_both f ef (even.0, sym z ∙ ap suc even.1)) in
     record {
       is_about = p.is_about;
@@ -65,7 +65,7 @@ takes_root about log ws views id v g n p e none inside lock even f =
           (λ (t : (j ≡ id) × (w ≡ u)). subst (Viewed about log (set ws g (suc n))) t.1 record {
             idle = λ b. absurd (true≢false b);
             one = omega arith;
-            holds = λ i a. ⊎_elim (λ (z : i ≡ h). subst (Holds about log (set ws g (suc n))) (sym z) record {
+            holds = λ i a. ⊎_elim (λ (z : i ≡ h). subst (HoldsRegion about log (set ws g (suc n))) (sym z) record {
               inside = inside;
               lock_is = get_or-set_same ws g (suc n) 0 long;
               odd = (even.0, ap suc even.1);
@@ -141,7 +141,7 @@ stores_root about log ws views id v h i n p e holds busy near =
           (λ (t : (j ≡ id) × (w ≡ u)). subst (Viewed about log ws') t.1 record {
             idle = λ b. absurd (true≢false (sym busy ∙ b));
             one = omega arith;
-            holds = λ k a. ⊎_elim (λ (z : k ≡ h'). subst (Holds about log ws') (sym z) record {
+            holds = λ k a. ⊎_elim (λ (z : k ≡ h'). subst (HoldsRegion about log ws') (sym z) record {
               inside = hv.inside;
               lock_is = lock_cell about ws g i g n hv.inside ∙ hv.lock_is;
               odd = hv.odd;
@@ -162,10 +162,10 @@ stores_root about log ws views id v h i n p e holds busy near =
 
 -- a reader's steps: no word changes, and no region's map
 pub quiet_root : (about : About) (log log' : History) (ws : List ℕ) (views : List V) (id : ℕ) (v w : V) → Compact about log ws views → get_elem? views id ≡ some v → ((k : ℕ) (m : List (ℕ × ℕ)) → IsMapOf about k log m → IsMapOf about k log' m)
-    → ((u : Vector) (i : ℕ) → name_of log' u ≡ Some i → IsPacked about i) → w.root.held ≡ v.root.held → w.busy ≡ v.busy → ((q : Reading) → Has q w.root.reader → Reads about ws q)
+    → ((u : Vector) (i : ℕ) → name_of log' u ≡ Some i → IsPacked about i) → w.root.held ≡ v.root.held → w.busy ≡ v.busy → ((q : Reading) → Has q w.root.reader → ReadsRegion about ws q)
     → Compact about log' ws (set views id w)
 quiet_root about log log' ws views id v w p e same packed held busy reads =
-    let on : (h : Holding) → Holds about log ws h → Holds about log' ws h = λ h r. record { inside = r.inside; lock_is = r.lock_is; odd = r.odd; copy_is = r.copy_is; base_is = same h.region h.base r.base_is; few = r.few } in
+    let on : (h : Holding) → HoldsRegion about log ws h → HoldsRegion about log' ws h = λ h r. record { inside = r.inside; lock_is = r.lock_is; odd = r.odd; copy_is = r.copy_is; base_is = same h.region h.base r.base_is; few = r.few } in
     record {
       is_about = p.is_about;
       long = p.long;

@@ -9,7 +9,7 @@ use Rattle.pair_rule.specs.Laws.{IsAbout}
 use Rattle.pair_rule.specs.Part.{Store, IsTable}
 use Rattle.pair_rule.specs.Paths.{size}
 use Rattle.pair_rule.specs.Plays.{first_root}
-use Rattle.region_root.specs.Layout.{IsSized, count, cells_of, regions, words_each, start, region_words}
+use Rattle.region_root.specs.Layout.{IsSized, compact_word_count, cells_of, regions, words_each, start, region_words}
 use Rattle.region_root.specs.Compact.{IsCompact, compact}
 use Rattle.region_root.proofs.Parts.{start_below}
 
@@ -20,7 +20,7 @@ first_is about sizes n same is = let e : n ≡ 1 + 2 ^ about.sizes.nodes = is �
 module _ (width flags : ℕ) (store : Store) (is : IsTable width flags (compact width flags) store) where
   -- what the table is about by its own width
   pub is_compact : IsCompact store.about
-  is_compact = subst (λ (p : ℕ × ℕ). IsAbout (IsSized p.0 p.1) (count p.0 p.1) store.about) (λ i. (sym is.width_is i, sym is.flags_are i)) is.is_about
+  is_compact = subst (λ (p : ℕ × ℕ). IsAbout (IsSized p.0 p.1) (compact_word_count p.0 p.1) store.about) (λ i. (sym is.width_is i, sym is.flags_are i)) is.is_about
 
   pub words_are : store.table.words ≡ first_root store.about + (regions store.about + regions store.about * words_each store.about)
   words_are = is.words_are ∙ ap (λ (n : ℕ). first_root store.about + n) is_compact.root_words_are

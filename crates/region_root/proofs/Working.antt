@@ -18,7 +18,7 @@ use Rattle.region_root.specs.declared.root.Holding.{Holding}
 use Rattle.region_root.specs.Layout.{regions, words_each, start, KeepsRoots, region_of}
 use Rattle.region_root.specs.Compact.{IsEven, IsOdd, compact, Compact}
 use Rattle.region_root.specs.Maps.{InRegion}
-use Rattle.region_root.specs.Plays.{part_of, recopied, place_in, Taken, takes_tells, copies_tells, stores_tells}
+use Rattle.region_root.specs.Plays.{part_of, recopied, place_in, TakenRegion, takes_tells, copies_tells, stores_tells}
 use Rattle.region_root.specs.Work.{released, AtWork, Locked}
 use Rattle.region_root.proofs.Holders.{takes, copies, stores}
 
@@ -96,7 +96,7 @@ module _ (width flags : ℕ) where
 
     -- and then it holds the region
     pub locked : (p q : PassOf Regions) (g lock : ℕ) → AtRest (compact width flags) store p → q.seat.table_id ≡ p.seat.table_id → q.seat.me.1 ≡ p.seat.me.1 → q ≡ record p { seat = q.seat } → g < regions store.about → IsOdd lock
-        → Taken g lock (view p) (view q) → Locked width flags store g lock p q
+        → TakenRegion g lock (view p) (view q) → Locked width flags store g lock p q
     locked p q g lock r same slots others inside odd t =
         let about = r.seat.about_is in
         let h : Holding = record { region = g; lock = lock; copy = t.copy; base = t.base } in

@@ -14,7 +14,7 @@ use Rattle.pair_rule.specs.Plays.{first_root}
 use Rattle.region_root.specs.declared.root.Regions.{Regions}
 use Rattle.region_root.specs.declared.root.Holding.{Holding}
 use Rattle.region_root.specs.Layout.{cells_of, start, place, region_of, IsPacked, keys_of, key_of, KeepsRoots}
-use Rattle.region_root.specs.Maps.{InRegion, flagged}
+use Rattle.region_root.specs.Maps.{InRegion, with_flag_set}
 use Rattle.region_root.specs.Compact.{IsCompact}
 use Rattle.region_root.specs.Work.{AtWork, CanWrite}
 use Rattle.region_root.proofs.Keys.{words_of, key_there, keys_flagged_are}
@@ -39,7 +39,7 @@ module _ (about : About) (is : IsCompact about) (x : ℕ) (packed : IsPacked abo
       (t (key_of about x f) k refl refl, subst (λ (n : ℕ). n < 2 ^ about.flags) (keeps.drawn.flags a.0 (key_of about x f) a.1) (cell_small (cells_of about) words a.0).flags)
 
   -- the map with its flags set
-  pub flagged_kept : (value : ℕ) (new : List ℕ) → InRegion about (region_of about x) m → ((keys : List Key) → KeepsMap z words keys → KeepsMap z new (keys_flagged at.home at.quotient value keys)) → KeepsRoots about new (flagged x value m)
+  pub flagged_kept : (value : ℕ) (new : List ℕ) → InRegion about (region_of about x) m → ((keys : List Key) → KeepsMap z words keys → KeepsMap z new (keys_flagged at.home at.quotient value keys)) → KeepsRoots about new (with_flag_set x value m)
   unfolding KeepsRoots
   flagged_kept value new inside set =
       let s = subst (λ (p : CellSizes × Place). KeepsMap p.0 words (keys_of about m) → KeepsMap p.0 new (keys_flagged p.1.home p.1.quotient value (keys_of about m))) (λ i. (same i, at_is i)) (set (keys_of about m)) keeps in

@@ -14,7 +14,7 @@ use Rattle.pair_rule.specs.Part.{Part}
 use Rattle.region_root.specs.declared.root.Regions.{Regions}
 use Rattle.region_root.specs.declared.root.Holding.{Holding}
 use Rattle.region_root.specs.declared.root.Reading.{Reading}
-use Rattle.region_root.specs.Layout.{IsSized, IsOut, cells_of, count, regions, words_each, most, lock_of, part}
+use Rattle.region_root.specs.Layout.{IsSized, IsOut, cells_of, compact_word_count, regions, words_each, most, lock_of, part}
 use Rattle.region_root.specs.Layout.{region_of, IsPacked, KeepsRoots}
 use Rattle.region_root.specs.Maps.{roots_of, IsMapOf, InRegion, FewEach, IsFull}
 
@@ -35,11 +35,11 @@ nothing = record { held = []; reader = []; peeks = 0; locks = 0 }
 
 -- what a compact store's table is about
 abbrev pub IsCompact : About → Type 0
-IsCompact about = IsAbout (IsSized about.width about.flags) (count about.width about.flags) about
+IsCompact about = IsAbout (IsSized about.width about.flags) (compact_word_count about.width about.flags) about
 
 -- A holder: the lock word is the odd value that it wrote, its copy is what the region's words are now, and
 -- its base is the map of the region's names.
-pub record Holds (about : About) (log : History) (ws : List ℕ) (h : Holding) : Type 0 where
+pub record HoldsRegion (about : About) (log : History) (ws : List ℕ) (h : Holding) : Type 0 where
   pub inside : h.region < regions about
   pub lock_is : lock_of ws h.region ≡ h.lock
   pub odd : IsOdd h.lock
@@ -49,7 +49,7 @@ pub record Holds (about : About) (log : History) (ws : List ℕ) (h : Holding) :
 
 -- A reader: where its first value is even and not the last one, the lock word has not fallen below it, and
 -- while it is still that value, what was loaded stands in the region's words.
-pub record Reads (about : About) (ws : List ℕ) (q : Reading) : Type 0 where
+pub record ReadsRegion (about : About) (ws : List ℕ) (q : Reading) : Type 0 where
   pub inside : q.region < regions about
   pub above : IsEven q.first → q.first < last → q.first ≤ lock_of ws q.region
   pub same : IsEven q.first → q.first < last → lock_of ws q.region ≡ q.first
@@ -62,8 +62,8 @@ held_of v = v.root.held
 pub record Viewed (about : About) (log : History) (ws : List ℕ) (v : View Regions) : Type 0 where
   pub idle : v.busy ≡ false → v.root.held ≡ []
   pub one : length v.root.held ≤ 1
-  pub holds : (h : Holding) → Has h v.root.held → Holds about log ws h
-  pub reads : (q : Reading) → Has q v.root.reader → Reads about ws q
+  pub holds : (h : Holding) → Has h v.root.held → HoldsRegion about log ws h
+  pub reads : (q : Reading) → Has q v.root.reader → ReadsRegion about ws q
 
 -- a region is held by one view, where its lock word is odd
 pub record Locks (about : About) (ws : List ℕ) (helds : List (List Holding)) : Type 0 where
@@ -96,7 +96,7 @@ pub record KnowsRegions (about : About) (v : View Regions) : Type 0 where
   pub idle : v.busy ≡ false → v.root.held ≡ []
 
 -- how the roots of a whole store lie: an identifier is its root, and no region has more roots than cells
-pub record Housed (about : About) (roots : List (ℕ × ℕ)) : Type 0 where
+pub record HousedInRegions (about : About) (roots : List (ℕ × ℕ)) : Type 0 where
   pub itself : (id pair : ℕ) → Has (id, pair) roots → (pair ≡ id) × IsPacked about id
   pub few : FewEach about roots
 
@@ -138,10 +138,10 @@ LockedOnce t u = u ≡ record t { locks = suc t.locks }
 abbrev pub compact : ℕ → ℕ → Part Regions
 compact width flags = record {
   sized = IsSized width flags;
-  count = count width flags;
+  count = compact_word_count width flags;
   is_out = IsOut width;
   roots = λ about h t. roots_of h;
-  house = Housed;
+  house = HousedInRegions;
   is_full = IsFull;
   bytes = λ about names. (names * cell_bits (cells_of about) + 7) / 8;
   sound = KnowsRegions;

@@ -25,11 +25,11 @@ use Rattle.pair_rule.proofs.Lists.{at_unmap, each_set, each_snoc, map_same, of_s
 use Rattle.pair_rule.proofs.Histories.{longer_is}
 use Rattle.region_root.specs.declared.root.Regions.{Regions}
 use Rattle.region_root.specs.declared.root.Holding.{Holding}
-use Rattle.region_root.specs.Layout.{IsSized, count, regions, words_each, most, lock_of, start, part}
+use Rattle.region_root.specs.Layout.{IsSized, compact_word_count, regions, words_each, most, lock_of, start, part}
 use Rattle.region_root.specs.Layout.{IsPacked, KeepsRoots}
 use Rattle.region_root.specs.Maps.{roots_of, IsMapOf, FewEach}
-use Rattle.region_root.specs.Compact.{IsEven, IsOdd, nothing, IsCompact, Holds, held_of, Viewed, Locks}
-use Rattle.region_root.specs.Compact.{Compact, KnowsRegions, Housed}
+use Rattle.region_root.specs.Compact.{IsEven, IsOdd, nothing, IsCompact, HoldsRegion, held_of, Viewed, Locks}
+use Rattle.region_root.specs.Compact.{Compact, KnowsRegions, HousedInRegions}
 use Rattle.region_root.specs.Names.{roots_more, are_names, kept_few, few_names, few_front}
 
 abbrev V : Type 0
@@ -179,11 +179,11 @@ compact_starts about ws is long blank = record {
 
 -- the same of a table of this width and number of flags
 pub compact_starts_of : (width flags : ℕ) (about : About) (ws : List ℕ) → about.width ≡ width
-    → about.flags ≡ flags → IsAbout (IsSized width flags) (count width flags) about
+    → about.flags ≡ flags → IsAbout (IsSized width flags) (compact_word_count width flags) about
     → length ws ≡ about.root_words
     → ((i : ℕ) → ◌≡◌ {A = ℕ} (get_or ws i 0) 0) → Compact about [] ws (newcomer nothing about ∷ [])
 compact_starts_of width flags about ws wide many is = compact_starts about ws (subst (λ (p : ℕ
-    × ℕ). IsAbout (IsSized p.0 p.1) (count p.0 p.1) about) (λ i. (sym wide i, sym many i)) is)
+    × ℕ). IsAbout (IsSized p.0 p.1) (compact_word_count p.0 p.1) about) (λ i. (sym wide i, sym many i)) is)
 
 pub even_or_odd : (n : ℕ) → IsEven n ⊎ IsOdd n
 even_or_odd zero = inl (0, refl)
@@ -195,7 +195,7 @@ even_or_odd (suc n) = ⊎_elim (λ (e : IsEven n). inr (e.0, ap suc e.1)) (λ (o
 -- what a view of the list holds
 pub held_there : (about : About) (log : History) (ws : List ℕ) (views : List V) → Compact about log ws views
     → (k : ℕ) (is : List Holding) (i : Holding) → get_elem? (map held_of views) k ≡ some is → Has i is
-    → Holds about log ws i
+    → HoldsRegion about log ws i
 held_there about log ws views p k is i e a = let u = at_unmap held_of views k is e in (p.each k u.0
     u.1).holds i (subst (Has i) (sym u.2) a)
 
@@ -239,7 +239,7 @@ module _ (about : About) (log : History) (ws : List ℕ) (nodes : ℕ
     idle = (p.each id v e).idle;
   }
 
-  pub compact_houses : Housed about (roots_of v.seen)
+  pub compact_houses : HousedInRegions about (roots_of v.seen)
   compact_houses = record {
     itself = λ i pair h. (
       ((are_names about.flags log legal).only i pair (part_of_log i pair h)).0,
@@ -256,9 +256,9 @@ pub knows_child : (about : About) (v : V) → KnowsRegions about v
     → KnowsRegions about (child_view (λ t. nothing) v)
 knows_child about v k = record { is_about = k.is_about; packed = k.packed; few = k.few; idle = λ b. refl }
 
-pub ids_below : (about : About) (v : V) → KnowsRegions about v → (id pair : ℕ)
+pub compact_ids_below : (about : About) (v : V) → KnowsRegions about v → (id pair : ℕ)
     → Has (id, pair) (roots_of v.seen) → id < 4611686018427387904
-ids_below about v k id pair h =
+compact_ids_below about v k id pair h =
     let low = k.packed id pair h in
     let most_wide : 2 * about.width ≤ 62 = let w = k.is_about.range.layout.1 in omega (arith, w) in
     let small = pow_mono most_wide in

@@ -44,8 +44,8 @@ region_count sizes = 2 ^ (sizes.roots - sizes.region)
 unfoldable pub region_words : ℕ → ℕ → Sizes → ℕ
 region_words width flags sizes = word_count (region_cells width flags sizes)
 
-abbrev pub count : ℕ → ℕ → Sizes → ℕ
-count width flags sizes = region_count sizes + region_count sizes * region_words width flags sizes
+abbrev pub compact_word_count : ℕ → ℕ → Sizes → ℕ
+compact_word_count width flags sizes = region_count sizes + region_count sizes * region_words width flags sizes
 
 -- the same of a table
 abbrev pub cells_of : About → CellSizes

@@ -25,9 +25,9 @@ pub record IsMapOf (about : About) (g : ℕ) (log : History) (map : List (ℕ ×
       → (region_of about id ≡ g) × ((v : Vector) × (name_of log v ≡ Some id) × (flags_of log v ≡ Some flags))
 
 -- the map with one root's flags set
-abbrev pub flagged : ℕ → ℕ → List (ℕ × ℕ) → List (ℕ × ℕ)
-flagged x flags [] = []
-flagged x flags (r ∷ map) = (r.0, if r.0 == x then flags else r.1) ∷ flagged x flags map
+abbrev pub with_flag_set : ℕ → ℕ → List (ℕ × ℕ) → List (ℕ × ℕ)
+with_flag_set x flags [] = []
+with_flag_set x flags (r ∷ map) = (r.0, if r.0 == x then flags else r.1) ∷ with_flag_set x flags map
 
 -- An act on the root x is right where its region's map is this, and leaves that one: a fresh one needs a root
 -- that is not there, and every other one tells the flags of a root that is there as they are.
@@ -36,10 +36,10 @@ Acts flag_count x (Put true) map next = ((flags : ℕ) → Has (x, flags) map �
 Acts flag_count x (Put false) map next = ((flags : ℕ) × Has (x, flags) map) × (next ≡ map)
 Acts flag_count x (Set bit first) map next = (bit < flag_count)
     × ((flags : ℕ) × Has (x, flags) map × (first ≡ not (has_bit flags bit))
-    × (next ≡ flagged x (with_bit flags bit) map))
+    × (next ≡ with_flag_set x (with_bit flags bit) map))
 Acts flag_count x (Clear bit first) map next = (bit < flag_count)
     × ((flags : ℕ) × Has (x, flags) map × (first ≡ has_bit flags bit)
-    × (next ≡ flagged x (without_bit flags bit) map))
+    × (next ≡ with_flag_set x (without_bit flags bit) map))
 Acts flag_count x (Look flags) map next = Has (x, flags) map × (next ≡ map)
 
 -- each root of the map is split to the region

@@ -10,7 +10,7 @@ use Rattle.tdb_base.proofs.NameLemmas.{name-push, name-nil, names-this, same-ref
 use Rattle.mix_hash.proofs.Hashing.{mix_of-below, mix_of-one_to_one}
 use Rattle.mix_hash.proofs.Cutting.{place_of-in_range, place_of-one_to_one}
 use Rattle.mix_hash.specs.Hash.{mix_of}
-use Rattle.mix_hash.specs.Places.{IsInRange}
+use Rattle.mix_hash.specs.Places.{IsPlaceInRange}
 use Rattle.cleary_core.proofs.Empty.{few_keys}
 use Rattle.pair_rule.specs.declared.sizes.About.{About}
 use Rattle.pair_rule.specs.Numbers.{NoRepeats}
@@ -120,7 +120,7 @@ are_names count h legal = legal-walk count AreNames (names_more count) [] h lega
 
 -- the place of a root
 pub place_in_range : (about : About) (x : ℕ) → IsCompact about → IsPacked about x
-    → IsInRange about.width about.sizes.roots about.sizes.region (place about x)
+    → IsPlaceInRange about.width about.sizes.roots about.sizes.region (place about x)
 unfolding place
 place_in_range about x is packed =
     let sized = is.range.roots in

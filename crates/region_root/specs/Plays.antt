@@ -73,15 +73,15 @@ abbrev pub seconded : ℕ → Reading → Regions → Regions
 seconded n q t = record t { reader = (record q { second = n }) ∷ [] }
 
 -- after the unlock of the odd value: the next one, or the last even value again
-abbrev pub IsNext : ℕ → ℕ → Type 0
-IsNext odd n = (n ≡ suc odd) ⊎ ((odd ≡ suc last) × (n ≡ last))
+abbrev pub IsNextLock : ℕ → ℕ → Type 0
+IsNextLock odd n = (n ≡ suc odd) ⊎ ((odd ≡ suc last) × (n ≡ last))
 
 -- the place of a word in the region g
 abbrev pub place_in : About → ℕ → ℕ → ℕ
 place_in about word g = word - (first_root about + start about g)
 
 -- the region was taken: its words, and the map that they keep, which has the names that the view has seen
-pub record Taken (g lock : ℕ) (v w : View Regions) : Type 0 where
+pub record TakenRegion (g lock : ℕ) (v w : View Regions) : Type 0 where
   pub copy : List ℕ
   pub base : List (ℕ × ℕ)
   pub view_is : w ≡ holding (record { region = g; lock = lock; copy = copy; base = base }) v
@@ -117,7 +117,7 @@ module _ {S : Type 0} where
   -- a lock word is exchanged from an even value to the next one
   abbrev pub takes_tells : Step S → Me S (View Regions) → ℕ → Me S (View Regions) → Type 0
   takes_tells st m n m' = (m'.1 ≡ m.1)
-      × (n ≡ st.first → Taken (st.word - first_root m.0.about) st.second m.0 m'.0)
+      × (n ≡ st.first → TakenRegion (st.word - first_root m.0.about) st.second m.0 m'.0)
       × (n ≢ st.first → m'.0 ≡ m.0)
 
   -- the holder loads a word of its region

@@ -7,7 +7,7 @@ ghost use Rattle.pair_rule.specs.Calls.{KeepsBuffers};
 ghost use Rattle.pair_rule.specs.Rest.{AtRest, view};
 ghost use Rattle.region_root.specs.declared.root.Holding.{Holding};
 ghost use Rattle.region_root.specs.Layout.{place, IsPacked, KeepsRoots};
-ghost use Rattle.region_root.specs.Maps.{Acts, flagged};
+ghost use Rattle.region_root.specs.Maps.{Acts, with_flag_set};
 ghost use Rattle.region_root.specs.Told.{Acted, flag_act};
 ghost use Rattle.region_root.specs.Compact.{compact};
 ghost use Rattle.region_root.specs.Plays.{Told};
@@ -76,7 +76,7 @@ fn turn_flag<const F: u32>(flags: u64, b: u32, set: bool) -> Change
     ensures small { result.value < 2 ^ F }
     ensures act { act_of result.act ≡ flag_act set b result.first }
     ensures acts { (x : ℕ) (base : List (ℕ × ℕ)) → Has (x, flags) base
-        → Acts F x (act_of result.act) base (flagged x result.value base) }
+        → Acts F x (act_of result.act) base (with_flag_set x result.value base) }
 {
     let had = has_flag(flags, b);
     if set {

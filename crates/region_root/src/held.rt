@@ -4,7 +4,7 @@ ghost use Rattle.tree_shape.specs.Tree.{Has};
 ghost use Rattle.pair_rule.specs.Rest.{view};
 ghost use Rattle.region_root.specs.declared.root.Holding.{Holding};
 ghost use Rattle.region_root.specs.Layout.{place, IsPacked, KeepsRoots};
-ghost use Rattle.region_root.specs.Maps.{flagged};
+ghost use Rattle.region_root.specs.Maps.{with_flag_set};
 ghost use Rattle.region_root.specs.Work.{AtWork, Added, Rewrites, held_words};
 
 use crate::access::{find_held, flags_held, insert_held, set_flags_held};
@@ -88,7 +88,7 @@ pub(crate) fn set_root_flags<const W: u32, const F: u32>(
         × KeepsRoots table.now.about h.copy h.base }
     ensures rewrites { Rewrites W F table.now pass.old pass.new }
     ensures flagged { (h : Holding) → (view pass.old).root.held ≡ h ∷ []
-        → KeepsRoots table.now.about (held_words pass.new) (flagged pair value h.base) }
+        → KeepsRoots table.now.about (held_words pass.new) (with_flag_set pair value h.base) }
 {
     let sizes = table.sizes();
     let region = Region::<W, F>::over(sizes.roots, sizes.region);

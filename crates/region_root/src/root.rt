@@ -54,7 +54,7 @@ impl<const W: u32, const F: u32> RootPart<W, F> for CompactRoot<W, F> {
     ghost use Rattle.region_root.specs.Compact.{nothing, compact, Compact};
     ghost use Rattle.region_root.specs.Laws.{compact_keeps, compact_keeps_split, compact_keeps_join};
     ghost use Rattle.region_root.specs.Laws.{compact_sounds, compact_houses, compact_starts_of};
-    ghost use Rattle.region_root.specs.Laws.{knows_parent, knows_child, ids_below, roots_longer};
+    ghost use Rattle.region_root.specs.Laws.{knows_parent, knows_child, compact_ids_below, roots_longer};
     ghost use Rattle.region_root.specs.Laws.{roots_of_one};
     ghost use Rattle.region_root.specs.Names.{roots_nil};
 
@@ -97,7 +97,7 @@ impl<const W: u32, const F: u32> RootPart<W, F> for CompactRoot<W, F> {
 
     ghost sound_child = { knows_child };
 
-    ghost ids_small = { ids_below };
+    ghost ids_small = { compact_ids_below };
 
     ghost roots_first = { λ about. roots_nil };
 

@@ -10,7 +10,7 @@ ghost use Rattle.region_root.specs.declared.root.Holding.{Holding};
 ghost use Rattle.region_root.specs.declared.root.Reading.{Reading};
 ghost use Rattle.region_root.specs.Layout.{regions, words_each, start, KeepsRoots};
 ghost use Rattle.region_root.specs.Compact.{IsEven, last, compact};
-ghost use Rattle.region_root.specs.Plays.{MayEnd, Told, IsNext, frees_tells, peeks_tells, recopied, reading};
+ghost use Rattle.region_root.specs.Plays.{MayEnd, Told, IsNextLock, frees_tells, peeks_tells, recopied, reading};
 ghost use Rattle.region_root.specs.Plays.{peeking, reloaded, Closed};
 ghost use Rattle.region_root.specs.Work.{ending_of, gives_name, AtWork, Locked};
 
@@ -84,7 +84,7 @@ pub(crate) fn store_held<const W: u32, const F: u32>(
 // The value of a lock word after the unlock of an odd one.
 #[inline]
 pub(crate) fn next_even(odd: u64) -> u64
-    ensures { IsNext odd result }
+    ensures { IsNextLock odd result }
 {
     if odd == u64::MAX {
         u64::MAX - 1

@@ -21,7 +21,7 @@ use Rattle.pair_rule.specs.Rest.{AtRest, view}
 use Rattle.pair_rule.proofs.Catches.{caught_then}
 use Rattle.root_plain.specs.declared.root.Roots.{Roots}
 use Rattle.root_plain.specs.declared.plays.Wanted.TheVariants.{Pair, Each, Nothing}
-use Rattle.root_plain.specs.Plain.{IsPlain, Holds, IsRoot}
+use Rattle.root_plain.specs.Plain.{IsPlain, HoldsRoot, IsRoot}
 use Rattle.pair_rule.specs.Part.{Store}
 use Rattle.pair_rule.specs.Calls.{IsNoName, Called}
 use Rattle.pair_rule.specs.Plays.{Caught}
@@ -39,7 +39,7 @@ caught_again more v u w a b = caught_then plain more v u w a b
 
 pub shows_then : (wanted : ℕ → Bool) (id n : ℕ) (v u w : V) → Caught plain [] v u → Shows wanted id n u w → Shows wanted id n v w
 shows_then wanted id n v u w a s =
-    let theirs : (x f : ℕ) → Holds v.about n x f → Holds u.about n x f = λ x f h. subst (λ (y : About). Holds y n x f) (sym a.about) h in
+    let theirs : (x f : ℕ) → HoldsRoot v.about n x f → HoldsRoot u.about n x f = λ x f h. subst (λ (y : About). HoldsRoot y n x f) (sym a.about) h in
     record {
       word = subst (λ (y : About). (n ≡ 0) ⊎ ((pair : ℕ) × IsRoot y n pair)) a.about s.word;
       empty = λ z. (caught_again [] v u w a (s.empty z).0, (s.empty z).1);

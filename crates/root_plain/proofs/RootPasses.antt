@@ -24,7 +24,7 @@ use Rattle.pair_rule.specs.Plays.{Caught}
 use Rattle.root_plain.specs.Plain.{plain}
 use Rattle.root_plain.specs.Plays.{Shows, Leaves, sought, claimed}
 use Rattle.pair_rule.proofs.Rests.{few_names_given}
-use Rattle.root_plain.specs.Laws.{ids_below}
+use Rattle.root_plain.specs.Laws.{plain_ids_below}
 use Rattle.root_plain.proofs.RootSteps.{root_room}
 use Rattle.root_plain.proofs.RootPlays.{seeks, claims}
 
@@ -107,4 +107,4 @@ claim_allowed store key p slots at word pair i new vector r same here inside pac
     (claims _ store.about slots p.seat.id p.seat.me at word pair i new vector r.seat.live r.seat.about_is here inside packed small near lies passed stands long)
 
 pub few_names : (store : Store) (p : PassOf Roots) → AtRest plain store p → p.names_count ≤ 4611686018427387904
-few_names store p r = few_names_given plain store ids_below p r
+few_names store p r = few_names_given plain store plain_ids_below p r

@@ -24,7 +24,7 @@ use Rattle.pair_rule.proofs.Buckets.{filled_put, nowhere}
 use Rattle.pair_rule.proofs.Advance.{catch, SameNodes, united, catches}
 use Rattle.pair_rule.proofs.Names.{SameNames, same_none, same_seen, fresh_flags, other_flags, named_same, root_more, named_caught, named_fresh}
 use Rattle.root_plain.specs.declared.root.Roots.{Roots}
-use Rattle.root_plain.specs.Plain.{both_roots, IsPlain, Holds, IsRoot, root_at, HasFlags, Plain}
+use Rattle.root_plain.specs.Plain.{both_roots, IsPlain, HoldsRoot, IsRoot, root_at, HasFlags, Plain}
 use Rattle.root_plain.specs.Words.{same_word, holds_used, root_one, root_used}
 use Rattle.root_plain.specs.Laws.{plain_sounds, plain_houses}
 use Rattle.pair_rule.specs.Calls.{call}
@@ -86,7 +86,7 @@ module _ (S : Type 0) (about : About) where
       pub pair : ℕ
       pub flags : ℕ
       pub inside : i < size (root_buckets about)
-      pub holds : Holds about (root_at (behind s.words) i) pair flags
+      pub holds : HoldsRoot about (root_at (behind s.words) i) pair flags
       pub flags_are : flags_of r.log u ≡ Some flags
       pub known : Has (i, pair) h.root.roots
       pub stands : RootStands about.width about.slots h.known pair u
@@ -145,20 +145,20 @@ module _ (S : Type 0) (about : About) where
       pub olds : after.olds ≡ []
 
     module _ (wanted : ℕ → Bool) (i n : ℕ) (is : root_at (behind s.words) i ≡ n) (about_is : v.about ≡ about) where
-      ours : (x f : ℕ) → Holds v.about n x f → Holds about n x f
-      ours x f a = subst (λ (y : About). Holds y n x f) about_is a
+      ours : (x f : ℕ) → HoldsRoot v.about n x f → HoldsRoot about n x f
+      ours x f a = subst (λ (y : About). HoldsRoot y n x f) about_is a
 
       -- an empty bucket
       sees_none : n ≡ 0 → Sees wanted i n
       sees_none blank =
           let quiet = looked [] (λ x a. absurd a) (subst (IsLegal about.flags) (sym (append-nil r.log)) r.legal) (same_none r.log) in
-          let never : (x f : ℕ) → Holds v.about n x f → ⊥ = λ x f a. holds_used about x f (subst (λ (m : ℕ). Holds about m x f) blank (ours x f a)) in
+          let never : (x f : ℕ) → HoldsRoot v.about n x f → ⊥ = λ x f a. holds_used about x f (subst (λ (m : ℕ). HoldsRoot about m x f) blank (ours x f a)) in
           record {
             after = caught [];
             rule = quiet.0;
             shows = record {
               word = inl blank;
-              empty = λ z. (quiet.1, λ u a. let k = r.rooted.names u i (sym ((same_none r.log).names_are u) ∙ a) in holds_used about k.1.pair k.1.flags (subst (λ (m : ℕ). Holds about m k.1.pair k.1.flags) (is ∙ blank) k.1.holds));
+              empty = λ z. (quiet.1, λ u a. let k = r.rooted.names u i (sym ((same_none r.log).names_are u) ∙ a) in holds_used about k.1.pair k.1.flags (subst (λ (m : ℕ). HoldsRoot about m k.1.pair k.1.flags) (is ∙ blank) k.1.holds));
               pair = λ x f a. absurd (never x f a);
               other = λ x a no. absurd (never x a.0 a.1);
               found = λ x a yes. absurd (never x a.0 a.1);
@@ -171,19 +171,19 @@ module _ (S : Type 0) (about : About) where
         abbrev k : IsName u i
         k = name_is u i name
 
-        here : Holds about n k.pair k.flags
-        here = subst (λ (m : ℕ). Holds about m k.pair k.flags) is k.holds
+        here : HoldsRoot about n k.pair k.flags
+        here = subst (λ (m : ℕ). HoldsRoot about m k.pair k.flags) is k.holds
 
         word_here : (n ≡ 0) ⊎ ((pair : ℕ) × IsRoot v.about n pair)
-        word_here = inr (k.pair, (k.flags, subst (λ (y : About). Holds y n k.pair k.flags) (sym about_is) here))
+        word_here = inr (k.pair, (k.flags, subst (λ (y : About). HoldsRoot y n k.pair k.flags) (sym about_is) here))
 
         not_empty : n ≡ 0 → ⊥
-        not_empty z = holds_used about k.pair k.flags (subst (λ (m : ℕ). Holds about m k.pair k.flags) z here)
+        not_empty z = holds_used about k.pair k.flags (subst (λ (m : ℕ). HoldsRoot about m k.pair k.flags) z here)
 
         only_pair : (x : ℕ) → IsRoot v.about n x → x ≡ k.pair
         only_pair x a = root_one about n x k.pair (a.0, ours x a.0 a.1) (k.flags, here)
 
-        pair_told : (more : History) → IsLegal about.flags (r.log ++ more) → SameNames r.log (r.log ++ more) → (x f : ℕ) → Holds v.about n x f
+        pair_told : (more : History) → IsLegal about.flags (r.log ++ more) → SameNames r.log (r.log ++ more) → (x f : ℕ) → HoldsRoot v.about n x f
             → Has (i, x) both.roots × ((c : Vector) → name_of (r.log ++ more) c ≡ Some i → flags_of (r.log ++ more) c ≡ Some f)
         pair_told more legal like x f a =
             let q = same_word about n x k.pair f k.flags (ours x f a) here in (
@@ -277,7 +277,7 @@ module _ (S : Type 0) (about : About) where
       others : (k : ℕ) → k ≢ i → now k ≡ old k
       others k n = behind_at filled_words k ∙ (get_or-set_other s.words word (first + k) (word_of about.width 0 x) 0 (λ z. n (omega arith)) ∙ sym (behind_at s.words k))
 
-      holds_now : Holds about (now i) x 0
+      holds_now : HoldsRoot about (now i) x 0
       holds_now =
           let room = root_room about r.rooted.is_about in
           let in_words : word < length s.words = omega (arith, r.wide, room) in
@@ -335,7 +335,7 @@ module _ (S : Type 0) (about : About) where
                   pair = q.1.pair;
                   flags = q.1.flags;
                   flags_are = other_flags r.log made u t ∙ q.1.flags_are;
-                  holds = subst (λ (c : ℕ). Holds about c q.1.pair q.1.flags) (sym (others k (not_here k q.1.pair (q.1.flags, q.1.holds)))) q.1.holds;
+                  holds = subst (λ (c : ℕ). HoldsRoot about c q.1.pair q.1.flags) (sym (others k (not_here k q.1.pair (q.1.flags, q.1.holds)))) q.1.holds;
                 },
               )
 

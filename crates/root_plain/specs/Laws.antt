@@ -140,10 +140,10 @@ told_same about v w same t =
           λ id pair h. t.lies id pair (subst (λ (r : Roots). Has (id, pair) r.roots) same h);
     }
 
-pub ids_below : (about : About) (v : V) → LiesOnPaths about v → (id pair : ℕ) → Has (id, pair) v.root.roots
+pub plain_ids_below : (about : About) (v : V) → LiesOnPaths about v → (id pair : ℕ) → Has (id, pair) v.root.roots
     → id < 4611686018427387904
 unfolding size
-ids_below about v t id pair h = let l = (t.lies id pair h).inside in let small =
+plain_ids_below about v t id pair h = let l = (t.lies id pair h).inside in let small =
     pow_below about.sizes.roots 62 (let most = t.is_about.range.roots.1 in omega arith) in omega
     (arith, l, small)
 

@@ -26,22 +26,22 @@ both_roots t u = record { roots = t.roots ++ u.roots }
 abbrev pub RootsFit : Sizes → Type 0
 RootsFit sizes = (3 ≤ sizes.roots) × (sizes.roots ≤ 24)
 
-abbrev pub count : Sizes → ℕ
-count sizes = 2 ^ sizes.roots
+abbrev pub plain_word_count : Sizes → ℕ
+plain_word_count sizes = 2 ^ sizes.roots
 
 -- what a plain store's table is about
 abbrev pub IsPlain : About → Type 0
 IsPlain about = IsAbout RootsFit count about
 
 -- the word has this pair, with these flags
-pub record Holds (about : About) (word pair flags : ℕ) : Type 0 where
+pub record HoldsRoot (about : About) (word pair flags : ℕ) : Type 0 where
   pub is_pair : IsPair (root_buckets about) pair
   pub few : flags < 2 ^ about.flags
   pub word_is : word ≡ word_of about.width flags pair
 
 -- the word has this pair, whatever its flags are
 abbrev pub IsRoot : About → ℕ → ℕ → Type 0
-IsRoot about word pair = (flags : ℕ) × Holds about word pair flags
+IsRoot about word pair = (flags : ℕ) × HoldsRoot about word pair flags
 
 abbrev pub root_at : List ℕ → ℕ → ℕ
 root_at ws id = slice_index ws id
@@ -51,7 +51,7 @@ pub record HasFlags (about : About) (log : History) (v : Vector) (word : ℕ) : 
   pub pair : ℕ
   pub flags : ℕ
   pub flags_are : flags_of log v ≡ Some flags
-  pub holds : Holds about word pair flags
+  pub holds : HoldsRoot about word pair flags
 
 -- The rule on the root words, the history and what each view knows of the words: the used buckets are exactly
 -- the identifiers of the history's names, each with its vector's flags, and each root pair that a view knows
@@ -83,7 +83,7 @@ pub record LiesOnPaths (about : About) (v : View Roots) : Type 0 where
 abbrev pub plain : Part Roots
 plain = record {
   sized = RootsFit;
-  count = count;
+  count = plain_word_count;
   is_out = λ sizes n. (n ≡ 2) × (RootsFit sizes → ⊥);
   roots = λ about h t. t.roots;
   house = λ about map. FillsPaths (root_buckets about) map;

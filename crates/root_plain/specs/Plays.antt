@@ -9,7 +9,7 @@ use Rattle.pair_rule.specs.Calls.{IsNoName, Called}
 use Rattle.root_plain.specs.declared.root.Roots.{Roots}
 use Rattle.root_plain.specs.declared.plays.Wanted.{Wanted}
 use Rattle.root_plain.specs.declared.plays.Wanted.TheVariants.{Pair, Each, Nothing}
-use Rattle.root_plain.specs.Plain.{Holds, IsRoot, plain}
+use Rattle.root_plain.specs.Plain.{HoldsRoot, IsRoot, plain}
 
 -- whether a pair that is found is one that is wanted
 abbrev pub wants : Wanted → ℕ → Bool
@@ -22,7 +22,7 @@ wants Nothing = λ pair. false
 pub record Shows (wanted : ℕ → Bool) (id n : ℕ) (v w : View Roots) : Type 0 where
   pub word : (n ≡ 0) ⊎ ((pair : ℕ) × IsRoot v.about n pair)
   pub empty : n ≡ 0 → Caught plain [] v w × IsNoName id w.seen
-  pub pair : (pair flags : ℕ) → Holds v.about n pair flags
+  pub pair : (pair flags : ℕ) → HoldsRoot v.about n pair flags
       → Has (id, pair) w.root.roots
       × ((vector : Vector) → name_of w.seen vector ≡ Some id → flags_of w.seen vector ≡ Some flags)
   pub other : (pair : ℕ) → IsRoot v.about n pair → wanted pair ≡ false → Caught plain [] v w

@@ -14,8 +14,8 @@ abbrev pub HasOther : ℕ → ℕ → View Roots → Type 0
 HasOther at pair w = (other : ℕ) × Has (at, other) w.root.roots × (other ≢ pair)
 
 -- the bucket is the next one of the pair's path: in all buckets before it other pairs are known
-abbrev pub IsNext : Buckets → List (ℕ × ℕ) → ℕ → ℕ → Type 0
-IsNext b roots pair at = (step : ℕ) × (step < reach b) × (bucket b pair step ≡ at)
+abbrev pub IsNextBucket : Buckets → List (ℕ × ℕ) → ℕ → ℕ → Type 0
+IsNextBucket b roots pair at = (step : ℕ) × (step < reach b) × (bucket b pair step ≡ at)
     × Passed b (Listed roots) pair step
 
 -- w is v after it caught up and found other pairs in the first `count` buckets of the pair's path

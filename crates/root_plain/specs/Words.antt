@@ -2,16 +2,16 @@
 use Rattle.std.proofs.Common.{◌≡◌, ℕ, ◌+◌, ◌*◌, ◌^◌, sym, ◌∙◌, arith}
 use Rattle.std.proofs.lemmas.Nat.{same_from_place}
 use Rattle.pair_rule.specs.declared.sizes.About.{About}
-use Rattle.root_plain.specs.Plain.{Holds, IsRoot}
+use Rattle.root_plain.specs.Plain.{HoldsRoot, IsRoot}
 
-pub same_word : (about : About) (n x y f g : ℕ) → Holds about n x f → Holds about n y g → (x ≡ y) × (f ≡ g)
+pub same_word : (about : About) (n x y f g : ℕ) → HoldsRoot about n x f → HoldsRoot about n y g → (x ≡ y) × (f ≡ g)
 same_word about n x y f g p q =
     let e : f * 2 ^ (2 * about.width) + x ≡ g * 2 ^ (2 * about.width) + y = let z =
     sym p.word_is ∙ q.word_is in omega (arith, z) in
     let s = same_from_place f x g y (2 ^ (2 * about.width)) p.is_pair q.is_pair e in
     (s.1, s.0)
 
-pub holds_used : (about : About) (x f : ℕ) → Holds about 0 x f → ⊥
+pub holds_used : (about : About) (x f : ℕ) → HoldsRoot about 0 x f → ⊥
 holds_used about x f p = let z = p.word_is in omega (arith, z)
 
 pub root_one : (about : About) (n x y : ℕ) → IsRoot about n x → IsRoot about n y → x ≡ y

@@ -12,7 +12,7 @@ ghost use Rattle.pair_rule.specs.Plays.{Caught};
 ghost use Rattle.pair_rule.specs.Rest.{AtRest, view};
 ghost use Rattle.root_plain.specs.Plain.{plain};
 ghost use Rattle.root_plain.specs.Plays.{Shows, wants};
-ghost use Rattle.root_plain.specs.Probe.{HasOther, IsNext, Passes, Along};
+ghost use Rattle.root_plain.specs.Probe.{HasOther, IsNextBucket, Passes, Along};
 ghost use Rattle.root_plain.specs.declared.plays.Wanted.TheVariants.{Pair};
 
 use crate::plays::Wanted;
@@ -39,7 +39,7 @@ fn settle<const W: u32, const F: u32>(
     requires rest { AtRest plain table.now pass.old }
     requires word { IsNodeWord table.now.about word }
     requires inside { at < size (root_buckets table.now.about) }
-    requires passed { IsNext (root_buckets table.now.about) (view pass.old).root.roots
+    requires passed { IsNextBucket (root_buckets table.now.about) (view pass.old).root.roots
         (pair_of_word word) at }
     requires stands { IsSomeRoot table.now.about (view pass.old).known (pair_of_word word) }
     ensures rest { AtRest plain table.now pass.new }
@@ -73,7 +73,7 @@ fn visit<const W: u32, const F: u32>(
     requires rest { AtRest plain table.now pass.old }
     requires word { IsNodeWord table.now.about word }
     requires inside { at < size (root_buckets table.now.about) }
-    requires passed { IsNext (root_buckets table.now.about) (view pass.old).root.roots
+    requires passed { IsNextBucket (root_buckets table.now.about) (view pass.old).root.roots
         (pair_of_word word) at }
     requires stands { IsSomeRoot table.now.about (view pass.old).known (pair_of_word word) }
     ensures rest { AtRest plain table.now pass.new }

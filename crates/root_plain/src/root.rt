@@ -20,7 +20,7 @@ impl<const W: u32, const F: u32> RootPart<W, F> for PlainRoot<W, F> {
     ghost use Rattle.pair_rule.specs.View.{parent_view, child_view};
     ghost use Rattle.root_plain.specs.Plain.{nothing_known, plain, Plain};
     ghost use Rattle.root_plain.specs.Laws.{plain_keeps, plain_keeps_split, plain_keeps_join, plain_starts};
-    ghost use Rattle.root_plain.specs.Laws.{plain_sounds, plain_houses, told_same, ids_below, roots_both, roots_either};
+    ghost use Rattle.root_plain.specs.Laws.{plain_sounds, plain_houses, told_same, plain_ids_below, roots_both, roots_either};
 
     type View = Roots;
 
@@ -61,7 +61,7 @@ impl<const W: u32, const F: u32> RootPart<W, F> for PlainRoot<W, F> {
 
     ghost sound_child = { λ about v sound. told_same about v (child_view (λ t. t) v) refl sound };
 
-    ghost ids_small = { ids_below };
+    ghost ids_small = { plain_ids_below };
 
     ghost roots_first = { λ about. refl };
 

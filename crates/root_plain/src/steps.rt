@@ -5,7 +5,7 @@ ghost use Rattle.atomic_table.specs.Table.{Allows, step};
 ghost use Rattle.pair_nodes.specs.Probe.{IsNodeWord, pair_of_word};
 ghost use Rattle.pair_rule.specs.Calls.{Called, IsSomeRoot};
 ghost use Rattle.pair_rule.specs.Paths.{root_buckets, size};
-ghost use Rattle.root_plain.specs.Probe.{IsNext};
+ghost use Rattle.root_plain.specs.Probe.{IsNextBucket};
 ghost use Rattle.pair_rule.specs.Plays.{first_root};
 ghost use Rattle.pair_rule.specs.Rest.{AtRest, view};
 ghost use Rattle.root_plain.specs.Plain.{plain};
@@ -82,7 +82,7 @@ pub(crate) fn claim<const W: u32, const F: u32>(
     requires rest { AtRest plain table.now pass.old }
     requires word { IsNodeWord table.now.about word }
     requires inside { at < size (root_buckets table.now.about) }
-    requires passed { IsNext (root_buckets table.now.about) (view pass.old).root.roots
+    requires passed { IsNextBucket (root_buckets table.now.about) (view pass.old).root.roots
         (pair_of_word word) at }
     requires stands { IsSomeRoot table.now.about (view pass.old).known (pair_of_word word) }
     ensures rest { AtRest plain table.now pass.new }

@@ -8,7 +8,7 @@ use Rattle.tdb_base.specs.declared.reply.Reply.TheVariants as r
 use Rattle.trace_csv.specs.OneReport.{HasWordId}
 use Rattle.trace_csv.specs.Report.{answer}
 use Rattle.trace_csv.proofs.OneReportLemmas.{comma-first, number-cancel}
-use Rattle.run_check.specs.Reading.{Always, Differs, EndsWithin, IsWord, Misses, Reads, ReadsWord, number_to, one_of}
+use Rattle.run_check.specs.Reading.{Always, Differs, EndsWithin, IsReplyWord, Misses, Reads, ReadsWord, number_to, one_of}
 use Rattle.run_check.specs.declared.word.Fault.{Fault}
 use Rattle.run_check.specs.declared.word.Fault.TheVariants as f
 
@@ -97,7 +97,7 @@ within-same : (text u v : List ℕ) → u ≡ v → EndsWithin text v → EndsWi
 within-same text u v same ends = (ends.0, ends.1, same ∙ ends.2)
 
 -- a text that begins with no comma and no number
-pub number-misses : (text : List ℕ) (fault : Fault) → ((rest : List ℕ) → text ≡ 44 ∷ rest → ⊥) → Misses (number_to 44) IsWord text fault → Misses answer HasWordId text fault
+pub number-misses : (text : List ℕ) (fault : Fault) → ((rest : List ℕ) → text ≡ 44 ∷ rest → ⊥) → Misses (number_to 44) IsReplyWord text fault → Misses answer HasWordId text fault
 number-misses text f.Short other misses =
     (r.New misses.0, misses.1, within-same text (answer (r.New misses.0)) (number_to 44 misses.0 ++ codes "new\n") (new-word misses.0) (within-front text (number_to 44 misses.0) (codes "new\n") misses.2))
 number-misses text f.Wrong other misses = by

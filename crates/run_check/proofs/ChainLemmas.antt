@@ -6,7 +6,7 @@ use Rattle.tdb_base.specs.Replies.{is_new}
 use Rattle.tdb_base.specs.declared.reply.Reply.{Reply}
 use Rattle.trace_csv.specs.OneReport.{HasWordId}
 use Rattle.trace_csv.specs.Report.{named_line, reply_lines}
-use Rattle.run_check.specs.Reading.{Always, IsWord, Misses, ReadsWord, wrong_line}
+use Rattle.run_check.specs.Reading.{Always, IsReplyWord, Misses, ReadsWord, wrong_line}
 use Rattle.run_check.specs.Refusal.{Refuses}
 use Rattle.run_check.specs.Text.{IsSummary, IsWrongAt}
 use Rattle.run_check.specs.declared.refusal.ReportError.{ReportError}
@@ -52,37 +52,37 @@ module _ (lines distinct : ℕ) (few : lines + 1 < 2 ^ 64) (fewer : distinct < 2
           left-same lines (lines + 1 + 1) (lines + 2) bytes stats FromStats (omega arith)
           (onward lines (lines + 1) bytes counts (FromDistinct distinct) at-distinct (λ _. named_line (codes "distinct ") distinct) Always (λ _. FromStats) (distinct-step distinct fewer) tt stats tt second)
 
-      pub nodes-refused : 0 < length stats → (error : ReportError) (fault : Fault) → error ≡ e.Syntax (wrong_line (lines + 3) stats fault) → Misses (named_line (codes "nodes ")) IsWord stats fault → Refuses lines bytes error
+      pub nodes-refused : 0 < length stats → (error : ReportError) (fault : Fault) → error ≡ e.Syntax (wrong_line (lines + 3) stats fault) → Misses (named_line (codes "nodes ")) IsReplyWord stats fault → Refuses lines bytes error
       nodes-refused some error fault is misses =
-          refused lines (lines + 2) (lines + 3) bytes stats FromStats at-stats (named_line (codes "nodes ")) IsWord (λ _. FromStored) nodes-step (omega arith) (λ _. some) error fault is misses
+          refused lines (lines + 2) (lines + 3) bytes stats FromStats at-stats (named_line (codes "nodes ")) IsReplyWord (λ _. FromStored) nodes-step (omega arith) (λ _. some) error fault is misses
 
-      module _ (nodes : ℕ) (stored : List ℕ) (nodes-fit : IsWord nodes) (third : stats ≡ named_line (codes "nodes ") nodes ++ stored) where
+      module _ (nodes : ℕ) (stored : List ℕ) (nodes-fit : IsReplyWord nodes) (third : stats ≡ named_line (codes "nodes ") nodes ++ stored) where
         at-stored : Left lines (lines + 3) bytes stored FromStored
         at-stored =
             left-same lines (lines + 2 + 1) (lines + 3) bytes stored FromStored (omega arith)
-            (onward lines (lines + 2) bytes stats FromStats at-stats (named_line (codes "nodes ")) IsWord (λ _. FromStored) nodes-step nodes stored nodes-fit third)
+            (onward lines (lines + 2) bytes stats FromStats at-stats (named_line (codes "nodes ")) IsReplyWord (λ _. FromStored) nodes-step nodes stored nodes-fit third)
 
-        pub stored-refused : (error : ReportError) (fault : Fault) → error ≡ e.Syntax (wrong_line (lines + 4) stored fault) → Misses (named_line (codes "stored ")) IsWord stored fault → Refuses lines bytes error
+        pub stored-refused : (error : ReportError) (fault : Fault) → error ≡ e.Syntax (wrong_line (lines + 4) stored fault) → Misses (named_line (codes "stored ")) IsReplyWord stored fault → Refuses lines bytes error
         stored-refused error fault is misses =
-            refused lines (lines + 3) (lines + 4) bytes stored FromStored at-stored (named_line (codes "stored ")) IsWord (λ _. FromRaw) stored-step (omega arith)
+            refused lines (lines + 3) (lines + 4) bytes stored FromStored at-stored (named_line (codes "stored ")) IsReplyWord (λ _. FromRaw) stored-step (omega arith)
             (λ goes. let size = ap length goes.4 in omega arith) error fault is misses
 
-        module _ (store : ℕ) (raw : List ℕ) (store-fit : IsWord store) (fourth : stored ≡ named_line (codes "stored ") store ++ raw) where
+        module _ (store : ℕ) (raw : List ℕ) (store-fit : IsReplyWord store) (fourth : stored ≡ named_line (codes "stored ") store ++ raw) where
           at-raw : Left lines (lines + 4) bytes raw FromRaw
           at-raw =
               left-same lines (lines + 3 + 1) (lines + 4) bytes raw FromRaw (omega arith)
-              (onward lines (lines + 3) bytes stored FromStored at-stored (named_line (codes "stored ")) IsWord (λ _. FromRaw) stored-step store raw store-fit fourth)
+              (onward lines (lines + 3) bytes stored FromStored at-stored (named_line (codes "stored ")) IsReplyWord (λ _. FromRaw) stored-step store raw store-fit fourth)
 
-          pub raw-refused : (error : ReportError) (fault : Fault) → error ≡ e.Syntax (wrong_line (lines + 5) raw fault) → Misses (named_line (codes "raw ")) IsWord raw fault → Refuses lines bytes error
+          pub raw-refused : (error : ReportError) (fault : Fault) → error ≡ e.Syntax (wrong_line (lines + 5) raw fault) → Misses (named_line (codes "raw ")) IsReplyWord raw fault → Refuses lines bytes error
           raw-refused error fault is misses =
-              refused lines (lines + 4) (lines + 5) bytes raw FromRaw at-raw (named_line (codes "raw ")) IsWord (λ _. IsOver) raw-step (omega arith)
+              refused lines (lines + 4) (lines + 5) bytes raw FromRaw at-raw (named_line (codes "raw ")) IsReplyWord (λ _. IsOver) raw-step (omega arith)
               (λ goes. let size = ap length goes.2 in omega arith) error fault is misses
 
-          pub end-refused : (plain : ℕ) (end : List ℕ) → IsWord plain → raw ≡ named_line (codes "raw ") plain ++ end → 0 < length end → Refuses lines bytes (e.Syntax (lines + 6))
+          pub end-refused : (plain : ℕ) (end : List ℕ) → IsReplyWord plain → raw ≡ named_line (codes "raw ") plain ++ end → 0 < length end → Refuses lines bytes (e.Syntax (lines + 6))
           end-refused plain end plain-fit fifth some =
               subst (IsWrongAt lines bytes) (omega arith) (past-end lines (lines + 5) bytes end
               (left-same lines (lines + 4 + 1) (lines + 5) bytes end IsOver (omega arith)
-              (onward lines (lines + 4) bytes raw FromRaw at-raw (named_line (codes "raw ")) IsWord (λ _. IsOver) raw-step plain end plain-fit fifth)) some)
+              (onward lines (lines + 4) bytes raw FromRaw at-raw (named_line (codes "raw ")) IsReplyWord (λ _. IsOver) raw-step plain end plain-fit fifth)) some)
 
 -- the whole summary
 pub summary-short : (lines distinct : ℕ) (text counts stats : List ℕ) → text ≡ named_line (codes "lines ") lines ++ counts → counts ≡ named_line (codes "distinct ") distinct ++ stats → length stats ≡ 0
@@ -90,7 +90,7 @@ pub summary-short : (lines distinct : ℕ) (text counts stats : List ℕ) → te
 summary-short lines distinct text counts [] first second none = (None, tt, first ∙ ap (λ (t : List ℕ). named_line (codes "lines ") lines ++ t) second)
 summary-short lines distinct text counts (b ∷ rest) first second none = absurd (omega arith)
 
-pub summary-long : (lines distinct nodes store plain : ℕ) (text counts stats stored raw end : List ℕ) → IsWord nodes → IsWord store → IsWord plain
+pub summary-long : (lines distinct nodes store plain : ℕ) (text counts stats stored raw end : List ℕ) → IsReplyWord nodes → IsReplyWord store → IsReplyWord plain
     → text ≡ named_line (codes "lines ") lines ++ counts → counts ≡ named_line (codes "distinct ") distinct ++ stats → stats ≡ named_line (codes "nodes ") nodes ++ stored
     → stored ≡ named_line (codes "stored ") store ++ raw → raw ≡ named_line (codes "raw ") plain ++ end → length end ≡ 0 → IsSummary lines distinct text
 summary-long lines distinct nodes store plain text counts stats stored raw [] one two three first second third fourth fifth none = (

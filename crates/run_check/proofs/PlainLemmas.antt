@@ -8,7 +8,7 @@ use Rattle.tdb_base.specs.History.{Vector}
 use Rattle.tdb_base.specs.declared.reply.Reply.{Reply}
 use Rattle.tdb_base.specs.declared.reply.Reply.TheVariants as r
 use Rattle.run_check.specs.Claim.{IsFirst}
-use Rattle.run_check.specs.Plain.{AreReached, AreSound, IsMarked, IsToMark, MayMark, NewIsMarked}
+use Rattle.run_check.specs.Plain.{AreReached, AreSound, HasMark, IsToMark, MayMark, NewHasMark}
 use Rattle.run_check.specs.Reached.{Line, Reached, after_new, by_itself, is_seen, owner}
 use Rattle.run_check.specs.Sentences.{IsTwice}
 use Rattle.tdb_base.proofs.ListLemmas.{at-within}
@@ -72,7 +72,7 @@ module _ (trace : List Vector) (replies : List Reply) (workers block : ℕ) wher
       earlier : (k : ℕ) → k < i → owner workers block k ≡ owner workers block i → Reached trace replies workers block k
       earlier k less own = sound.reached k (may.earlier k less own)
 
-      by : (reply : Reply) → Line trace replies i may.vector reply → (is_seen reply ≡ true → NewIsMarked trace replies marks may.vector) → Reached trace replies workers block i
+      by : (reply : Reply) → Line trace replies i may.vector reply → (is_seen reply ≡ true → NewHasMark trace replies marks may.vector) → Reached trace replies workers block i
       by (r.New id) line known = by_itself may.vector (r.New id) line refl earlier
       by (r.Seen id) line known = let new = known refl in after_new may.vector id line earlier new.1 new.2 (sound.reached new.0 new.3)
       by r.FullNodes line known = by_itself may.vector r.FullNodes line refl earlier
@@ -82,13 +82,13 @@ module _ (trace : List Vector) (replies : List Reply) (workers block : ℕ) wher
       → AreSound trace replies workers block (set marks i true)
   mark-sound marks i inside sound to = record { count = length-set marks i true ∙ sound.count; reached = λ k. reached k (k == i) refl }
     where
-      reached : (k : ℕ) (b : Bool) → (k == i) ≡ b → IsMarked (set marks i true) k → Reached trace replies workers block k
+      reached : (k : ℕ) (b : Bool) → (k == i) ≡ b → HasMark (set marks i true) k → Reached trace replies workers block k
       reached k true t marked = (let one : i ≡ k = grind arith in subst (Reached trace replies workers block) one (may-reached marks i sound to.1))
       reached k false t marked =
           sound.reached k (sym (get_or-set_other marks i k true false (λ (one : k ≡ i). (let yes : (k == i) ≡ true = grind arith in cc (yes, t)))) ∙ marked)
 
   module _ (marks : List Bool) (i : ℕ) (one_each : length replies ≡ length trace) (inside : i < length trace) (free : get_or marks i false ≡ false)
-      (earlier : (k : ℕ) → k < i → owner workers block k ≡ owner workers block i → IsMarked marks k) where
+      (earlier : (k : ℕ) → k < i → owner workers block k ≡ owner workers block i → HasMark marks k) where
     line-here : (reply : Reply) → get_or replies i (r.New 0) ≡ reply → (v : Vector) → slice_get trace i ≡ Some v → Line trace replies i v reply
     line-here reply e v at = (at, at-get replies i (r.New 0) reply (omega (arith, inside, one_each)) e)
 
@@ -109,27 +109,27 @@ module _ (trace : List Vector) (replies : List Reply) (workers block : ℕ) wher
           λ it. refl,
         )
 
-    pub to-mark-by-new : (id : ℕ) (v : Vector) → slice_get trace i ≡ Some v → get_or replies i (r.New 0) ≡ r.Seen id → (b : Bool) → IsTrue b ↔ NewIsMarked trace replies marks v
+    pub to-mark-by-new : (id : ℕ) (v : Vector) → slice_get trace i ≡ Some v → get_or replies i (r.New 0) ≡ r.Seen id → (b : Bool) → IsTrue b ↔ NewHasMark trace replies marks v
         → IsTrue b ↔ IsToMark trace replies workers block marks i
     to-mark-by-new id v at e b new = (
       λ yes. (free, record { vector = v; reply = r.Seen id; line = line-here (r.Seen id) e v at; earlier = earlier; known = λ seen. new.0 yes }),
       λ it. (let line = line-here (r.Seen id) e v at in
           let reply = line-reply trace replies i v it.1.vector (r.Seen id) it.1.reply line it.1.line in
           let vector = line-vector trace replies i it.1.vector v it.1.reply (r.Seen id) it.1.line line in
-          new.1 (subst (NewIsMarked trace replies marks) vector (it.1.known (sym (ap is_seen reply))))),
+          new.1 (subst (NewHasMark trace replies marks) vector (it.1.known (sym (ap is_seen reply))))),
     )
 
   -- where none may be marked that isn't, all that are reached are marked
   module _ (marks : List Bool) (sound : AreSound trace replies workers block marks)
       (none : (i : ℕ) → i < length trace → IsToMark trace replies workers block marks i → ⊥) where
-    closed : (i : ℕ) → MayMark trace replies workers block marks i → IsMarked marks i
+    closed : (i : ℕ) → MayMark trace replies workers block marks i → HasMark marks i
     closed i may = by (get_or marks i false) refl
       where
         by : (b : Bool) → get_or marks i false ≡ b → get_or marks i false ≡ true
         by true e = e
         by false e = absurd (none i (slice_get_within trace i may.vector may.line.0) (e, may))
 
-    all-marked : (i : ℕ) → Reached trace replies workers block i → IsMarked marks i
+    all-marked : (i : ℕ) → Reached trace replies workers block i → HasMark marks i
     all-marked i (by_itself v reply line quiet earlier) =
         closed i (record { vector = v; reply = reply; line = line; earlier = λ k less own. all-marked k (earlier k less own); known = λ e. absurd (let f : true ≡ false = sym e ∙ quiet in cc f) })
     all-marked i (after_new {m = m} v id line earlier other there reached) =

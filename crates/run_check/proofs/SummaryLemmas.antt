@@ -12,7 +12,7 @@ use Rattle.trace_csv.specs.Report.{answer, named_line, reply_line, reply_lines, 
 use Rattle.trace_csv.specs.declared.report.Stats.{Stats}
 use Rattle.trace_csv.proofs.DecimalLemmas.{decimal-digit}
 use Rattle.trace_csv.proofs.OneReportLemmas.{line-cancel, named-cancel}
-use Rattle.run_check.specs.Reading.{Always, IsWord}
+use Rattle.run_check.specs.Reading.{Always, IsReplyWord}
 use Rattle.run_check.specs.Text.{FitWords}
 use Rattle.run_check.proofs.LineLemmas.{NoFeed, no-feed-append}
 use Rattle.run_check.proofs.SyntaxLemmas.{IsLine, Step}
@@ -74,10 +74,10 @@ abbrev pub FromStats : List ℕ → Type 0
 FromStats t = (stats : Option Stats) × FitWords stats × (t ≡ stats_text stats)
 
 abbrev pub FromStored : List ℕ → Type 0
-FromStored t = (stored : ℕ) × (raw : ℕ) × IsWord stored × IsWord raw × (t ≡ named_line (codes "stored ") stored ++ named_line (codes "raw ") raw)
+FromStored t = (stored : ℕ) × (raw : ℕ) × IsReplyWord stored × IsReplyWord raw × (t ≡ named_line (codes "stored ") stored ++ named_line (codes "raw ") raw)
 
 abbrev pub FromRaw : List ℕ → Type 0
-FromRaw t = (raw : ℕ) × IsWord raw × (t ≡ named_line (codes "raw ") raw)
+FromRaw t = (raw : ℕ) × IsReplyWord raw × (t ≡ named_line (codes "raw ") raw)
 
 abbrev pub IsOver : List ℕ → Type 0
 IsOver t = t ≡ []
@@ -95,8 +95,8 @@ fixed-step word T T' line split join y there = record {
 }
 
 -- a name and any number
-count-step : (name : List ℕ) (T T' : List ℕ → Type 0) → NoFeed name → ((t : List ℕ) → 0 < length t → T t → (n : ℕ) × (y : List ℕ) × IsWord n × (t ≡ named_line name n ++ y) × T' y)
-    → ((n : ℕ) (y : List ℕ) → IsWord n → T' y → T (named_line name n ++ y)) → (y : List ℕ) → T' y → Step T (named_line name) IsWord (λ _. T')
+count-step : (name : List ℕ) (T T' : List ℕ → Type 0) → NoFeed name → ((t : List ℕ) → 0 < length t → T t → (n : ℕ) × (y : List ℕ) × IsReplyWord n × (t ≡ named_line name n ++ y) × T' y)
+    → ((n : ℕ) (y : List ℕ) → IsReplyWord n → T' y → T (named_line name n ++ y)) → (y : List ℕ) → T' y → Step T (named_line name) IsReplyWord (λ _. T')
 count-step name T T' none split join y there = record {
   split = split;
   join = join;
@@ -120,24 +120,24 @@ distinct-step distinct few =
     (λ y goes. (goes.0, goes.1, ap (λ (t : List ℕ). named_line (codes "distinct ") distinct ++ t) goes.2))
     [] (None, tt, refl)
 
-pub nodes-step : Step FromStats (named_line (codes "nodes ")) IsWord (λ _. FromStored)
+pub nodes-step : Step FromStats (named_line (codes "nodes ")) IsReplyWord (λ _. FromStored)
 nodes-step =
     count-step (codes "nodes ") FromStats FromStored (search rules) split
     (λ n y fits goes. (Some (record { nodes = n; stored = goes.0; raw = goes.1 }), record { nodes = fits; stored = goes.2; raw = goes.3 }, ap (λ (t : List ℕ). named_line (codes "nodes ") n ++ t) goes.4))
     (named_line (codes "stored ") 0 ++ named_line (codes "raw ") 0) (0, 0, omega arith, omega arith, refl)
   where
-    split : (t : List ℕ) → 0 < length t → FromStats t → (n : ℕ) × (y : List ℕ) × IsWord n × (t ≡ named_line (codes "nodes ") n ++ y) × FromStored y
+    split : (t : List ℕ) → 0 < length t → FromStats t → (n : ℕ) × (y : List ℕ) × IsReplyWord n × (t ≡ named_line (codes "nodes ") n ++ y) × FromStored y
     split t some (None, fit, e) = absurd (let none = ap length e in omega arith)
     split t some (Some s, fit, e) = (s.nodes, named_line (codes "stored ") s.stored ++ named_line (codes "raw ") s.raw, fit.nodes, e, (s.stored, s.raw, fit.stored, fit.raw, refl))
 
-pub stored-step : Step FromStored (named_line (codes "stored ")) IsWord (λ _. FromRaw)
+pub stored-step : Step FromStored (named_line (codes "stored ")) IsReplyWord (λ _. FromRaw)
 stored-step =
     count-step (codes "stored ") FromStored FromRaw (search rules)
     (λ t some goes. (goes.0, named_line (codes "raw ") goes.1, goes.2, goes.4, (goes.1, goes.3, refl)))
     (λ n y fits goes. (n, goes.0, fits, goes.1, ap (λ (t : List ℕ). named_line (codes "stored ") n ++ t) goes.2))
     (named_line (codes "raw ") 0) (0, omega arith, refl)
 
-pub raw-step : Step FromRaw (named_line (codes "raw ")) IsWord (λ _. IsOver)
+pub raw-step : Step FromRaw (named_line (codes "raw ")) IsReplyWord (λ _. IsOver)
 raw-step =
     count-step (codes "raw ") FromRaw IsOver (search rules)
     (λ t some goes. (goes.0, [], goes.1, goes.2 ∙ sym (append-nil (named_line (codes "raw ") goes.0)), refl))

@@ -11,13 +11,13 @@ use Rattle.tdb_base.specs.declared.reply.Reply.{Reply}
 use Rattle.tdb_base.specs.declared.reply.Reply.TheVariants as r
 use Rattle.tdb_base.proofs.ListLemmas.{before-or-last}
 use Rattle.run_check.specs.Reached.{Line}
-use Rattle.run_check.specs.Table.{HasKey, IsFree, IsTableOf, NoneHas, HasSlot, hash_of, is_vector, mixed, probe, spread, vector_hash}
+use Rattle.run_check.specs.Table.{HasKey, IsFree, IsTableOf, NoneHas, HasSlot, key_hash, is_vector, mixed, probe, spread, vector_hash}
 use Rattle.run_check.specs.declared.table.Key.{Key}
 use Rattle.run_check.specs.declared.table.Key.TheVariants as k
 use Rattle.run_check.proofs.Dealt.{line-reply, line-vector, new-id}
 
 -- a line has one hash
-same-hash : (trace : List Vector) (replies : List Reply) (i : ℕ) (a b : Key) → HasKey trace replies i a → HasKey trace replies i b → is_vector a ≡ is_vector b → hash_of a ≡ hash_of b
+same-hash : (trace : List Vector) (replies : List Reply) (i : ℕ) (a b : Key) → HasKey trace replies i a → HasKey trace replies i b → is_vector a ≡ is_vector b → key_hash a ≡ key_hash b
 same-hash trace replies i (k.Vector v) (k.Vector w) one other e = ap (λ (u : Vector). spread (vector_hash u)) (line-vector trace replies i v.now w.now (r.New one.0) (r.New other.0) one.1 other.1)
 same-hash trace replies i (k.Vector v) (k.Identifier b) one other e = cc e
 same-hash trace replies i (k.Identifier a) (k.Vector w) one other e = cc e
@@ -40,12 +40,12 @@ kept-none trace replies vectors n slots e = record {
 module _ (trace : List Vector) (replies : List Reply) (i : ℕ) (key : Key) (slots : List ℕ) (kept : IsTableOf trace replies i (is_vector key) slots) where
   -- so many slots are looked at, and have other lines
   abbrev pub Passed : ℕ → Type 0
-  Passed steps = (t : ℕ) → t < steps → (line : ℕ) → get_or slots (probe (length slots) (hash_of key) t) 0 ≡ line + 1 → HasKey trace replies line key → ⊥
+  Passed steps = (t : ℕ) → t < steps → (line : ℕ) → get_or slots (probe (length slots) (key_hash key) t) 0 ≡ line + 1 → HasKey trace replies line key → ⊥
 
-  pub none-at-free : (step : ℕ) → Passed step → get_or slots (probe (length slots) (hash_of key) step) 0 ≡ 0 → NoneHas trace replies i key
+  pub none-at-free : (step : ℕ) → Passed step → get_or slots (probe (length slots) (key_hash key) step) 0 ≡ 0 → NoneHas trace replies i key
   none-at-free step passed empty line lt has = by (cases_lt stands.step step)
     where
-      stands : HasSlot slots (hash_of key) line
+      stands : HasSlot slots (key_hash key) line
       stands = kept.there line key lt has refl
 
       by : (stands.step < step) ⊎ (step ≤ stands.step) → ⊥
@@ -56,7 +56,7 @@ module _ (trace : List Vector) (replies : List Reply) (i : ℕ) (key : Key) (slo
           past (inl less) = stands.before step less empty
           past (inr least) =
               let same : stands.step ≡ step = omega arith in
-              let value = ap (λ t. get_or slots (probe (length slots) (hash_of key) t) 0) same in
+              let value = ap (λ t. get_or slots (probe (length slots) (key_hash key) t) 0) same in
               let here = stands.here in
               omega arith
 
@@ -65,7 +65,7 @@ module _ (trace : List Vector) (replies : List Reply) (i : ℕ) (key : Key) (slo
       let stands = kept.there line key lt has refl in
       passed stands.step stands.few line stands.here has
 
-  pub kept-more : (slot : ℕ) (new : List ℕ) → IsFree slots (hash_of key) slot → HasKey trace replies i key → new ≡ set slots slot (i + 1) → slot < length slots → IsTableOf trace replies (i + 1) (is_vector key) new
+  pub kept-more : (slot : ℕ) (new : List ℕ) → IsFree slots (key_hash key) slot → HasKey trace replies i key → new ≡ set slots slot (i + 1) → slot < length slots → IsTableOf trace replies (i + 1) (is_vector key) new
   kept-more slot new free has e inside = subst (IsTableOf trace replies (i + 1) (is_vector key)) (sym e) (record {
     some = (let some = kept.some in let e = size in omega arith);
     within = λ at line here. within at line here (cases_eq at slot);
@@ -99,18 +99,18 @@ module _ (trace : List Vector) (replies : List Reply) (i : ℕ) (key : Key) (slo
       keeps : (at : ℕ) → get_or slots at 0 ≢ 0 → get_or (set slots slot (i + 1)) at 0 ≢ 0
       keeps at some e = some (sym (stays at some) ∙ e)
 
-      there : (line : ℕ) (other : Key) → HasKey trace replies line other → is_vector other ≡ is_vector key → (line < i) ⊎ (line ≡ i) → HasSlot (set slots slot (i + 1)) (hash_of other) line
+      there : (line : ℕ) (other : Key) → HasKey trace replies line other → is_vector other ≡ is_vector key → (line < i) ⊎ (line ≡ i) → HasSlot (set slots slot (i + 1)) (key_hash other) line
       there line other its kind (inl less) =
           let stands = kept.there line other less its kind in
           let here = stands.here in
-          sized (hash_of other) line stands.step stands.few (stays (probe (length slots) (hash_of other) stands.step) (λ e. omega (arith, e, here)) ∙ here)
-          (λ t lt. keeps (probe (length slots) (hash_of other) t) (stands.before t lt))
+          sized (key_hash other) line stands.step stands.few (stays (probe (length slots) (key_hash other) stands.step) (λ e. omega (arith, e, here)) ∙ here)
+          (λ t lt. keeps (probe (length slots) (key_hash other) t) (stands.before t lt))
       there line other its kind (inr last) =
-          let hash : hash_of key ≡ hash_of other = same-hash trace replies i key other has (subst (λ (n : ℕ). HasKey trace replies n other) last its) (sym kind) in
+          let hash : key_hash key ≡ key_hash other = same-hash trace replies i key other has (subst (λ (n : ℕ). HasKey trace replies n other) last its) (sym kind) in
           subst (λ (h : ℕ). HasSlot (set slots slot (i + 1)) h line) hash
-          (sized (hash_of key) line free.step free.few
+          (sized (key_hash key) line free.step free.few
           (ap (λ n. get_or (set slots slot (i + 1)) n 0) (sym free.place) ∙ get_or-set_same slots slot (i + 1) 0 inside ∙ ap (λ n. n + 1) (sym last))
-          (λ t lt. keeps (probe (length slots) (hash_of key) t) (free.before t lt)))
+          (λ t lt. keeps (probe (length slots) (key_hash key) t) (free.before t lt)))
 
 -- a line that isn't answered new
 pub kept-other : (trace : List Vector) (replies : List Reply) (i : ℕ) (vectors : Bool) (slots : List ℕ) → IsTableOf trace replies i vectors slots → ((key : Key) → HasKey trace replies i key → ⊥)
@@ -121,7 +121,7 @@ kept-other trace replies i vectors slots kept none = record {
   there = λ line key lt has kind. there line key has kind (before-or-last line i lt);
 }
   where
-    there : (line : ℕ) (key : Key) → HasKey trace replies line key → is_vector key ≡ vectors → (line < i) ⊎ (line ≡ i) → HasSlot slots (hash_of key) line
+    there : (line : ℕ) (key : Key) → HasKey trace replies line key → is_vector key ≡ vectors → (line < i) ⊎ (line ≡ i) → HasSlot slots (key_hash key) line
     there line key has kind (inl less) = kept.there line key less has kind
     there line key has kind (inr last) = absurd (none key (subst (λ (n : ℕ). HasKey trace replies n key) last has))
 
@@ -151,15 +151,15 @@ hash-more v i hash new lt old e = e ∙ ap (λ h. mixed h (get_or v i 0)) old �
 
 -- what a search in a table has passed
 pub record Seeks (trace : List Vector) (replies : List Reply) (key : Key) (slots : List ℕ) (steps : ℕ) : Type 0 where
-  pub filled : (t : ℕ) → t < steps → get_or slots (probe (length slots) (hash_of key) t) 0 ≢ 0
-  pub passed : (t : ℕ) → t < steps → (line : ℕ) → get_or slots (probe (length slots) (hash_of key) t) 0 ≡ line + 1 → HasKey trace replies line key → ⊥
+  pub filled : (t : ℕ) → t < steps → get_or slots (probe (length slots) (key_hash key) t) 0 ≢ 0
+  pub passed : (t : ℕ) → t < steps → (line : ℕ) → get_or slots (probe (length slots) (key_hash key) t) 0 ≡ line + 1 → HasKey trace replies line key → ⊥
 
 pub seeks-none : (trace : List Vector) (replies : List Reply) (key : Key) (slots : List ℕ) → Seeks trace replies key slots 0
 seeks-none trace replies key slots = record { filled = λ t lt. absurd (omega (arith, lt)); passed = λ t lt. absurd (omega (arith, lt)) }
 
 module _ (trace : List Vector) (replies : List Reply) (key : Key) (slots : List ℕ) (step slot entry : ℕ) (old : Seeks trace replies key slots step)
-    (at : slot ≡ probe (length slots) (hash_of key) step) (value : entry ≡ get_or slots slot 0) where
-  here : entry ≡ get_or slots (probe (length slots) (hash_of key) step) 0
+    (at : slot ≡ probe (length slots) (key_hash key) step) (value : entry ≡ get_or slots slot 0) where
+  here : entry ≡ get_or slots (probe (length slots) (key_hash key) step) 0
   here = value ∙ ap (λ n. get_or slots n 0) at
 
   pub seeks-more : entry ≢ 0 → (HasKey trace replies (entry - 1) key → ⊥) → Seeks trace replies key slots (step + 1)
@@ -168,18 +168,18 @@ module _ (trace : List Vector) (replies : List Reply) (key : Key) (slots : List 
     passed = λ t lt line. passed t line (before-or-last t step lt);
   }
     where
-      filled : (t : ℕ) → (t < step) ⊎ (t ≡ step) → get_or slots (probe (length slots) (hash_of key) t) 0 ≢ 0
+      filled : (t : ℕ) → (t < step) ⊎ (t ≡ step) → get_or slots (probe (length slots) (key_hash key) t) 0 ≢ 0
       filled t (inl less) = old.filled t less
-      filled t (inr last) = λ e. some (here ∙ sym (ap (λ n. get_or slots (probe (length slots) (hash_of key) n) 0) last) ∙ e)
+      filled t (inr last) = λ e. some (here ∙ sym (ap (λ n. get_or slots (probe (length slots) (key_hash key) n) 0) last) ∙ e)
 
-      passed : (t line : ℕ) → (t < step) ⊎ (t ≡ step) → get_or slots (probe (length slots) (hash_of key) t) 0 ≡ line + 1 → HasKey trace replies line key → ⊥
+      passed : (t line : ℕ) → (t < step) ⊎ (t ≡ step) → get_or slots (probe (length slots) (key_hash key) t) 0 ≡ line + 1 → HasKey trace replies line key → ⊥
       passed t line (inl less) e has = old.passed t less line e has
       passed t line (inr last) e has =
-          let whole : entry ≡ line + 1 = here ∙ sym (ap (λ n. get_or slots (probe (length slots) (hash_of key) n) 0) last) ∙ e in
+          let whole : entry ≡ line + 1 = here ∙ sym (ap (λ n. get_or slots (probe (length slots) (key_hash key) n) 0) last) ∙ e in
           let same : line ≡ entry - 1 = omega arith in
           other (subst (λ (n : ℕ). HasKey trace replies n key) same has)
 
-  pub place-free : entry ≡ 0 → step < length slots → (i : ℕ) → IsTableOf trace replies i (is_vector key) slots → NoneHas trace replies i key × IsFree slots (hash_of key) slot
+  pub place-free : entry ≡ 0 → step < length slots → (i : ℕ) → IsTableOf trace replies i (is_vector key) slots → NoneHas trace replies i key × IsFree slots (key_hash key) slot
   place-free empty few i kept = (
     none-at-free trace replies i key slots kept step old.passed (sym here ∙ empty),
     record { step = step; few = few; place = at; empty = sym value ∙ empty; before = old.filled },

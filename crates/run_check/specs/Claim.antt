@@ -7,8 +7,8 @@ use Rattle.run_check.specs.declared.claim.Claim.{Claim}
 use Rattle.run_check.specs.declared.verdict.Verdict.{Verdict}
 
 -- for each line the one with its vector that is answered new is found
-abbrev pub IsReady : Claim → Type 0
-IsReady c = Finds c.trace.now c.replies.now c.found.now
+abbrev pub IsClaimReady : Claim → Type 0
+IsClaimReady c = Finds c.trace.now c.replies.now c.found.now
 
 abbrev pub HasWorkers : Claim → Type 0
 HasWorkers c = (0 < c.workers) × (c.workers ≤ 64)

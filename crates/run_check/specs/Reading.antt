@@ -32,8 +32,8 @@ ReadsWord word text (Err f.Short) = EndsWithin text word
 ReadsWord word text (Err f.Wrong) = Differs text word
 
 -- a number of 64 bits
-abbrev pub IsWord : ℕ → Type 0
-IsWord n = n < 2 ^ 64
+abbrev pub IsReplyWord : ℕ → Type 0
+IsReplyWord n = n < 2 ^ 64
 
 -- each value has a word
 abbrev pub Always : {A : Type 0} → A → Type 0

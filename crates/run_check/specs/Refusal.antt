@@ -38,7 +38,7 @@ RefusesAfter lines distinct text error =
     → bytes ≡ reply_lines 0 replies ++ text → Refuses lines bytes error
 
 -- the bytes are the lines of these replies, of which there are so many, and then this text
-pub record AreRead (lines : ℕ) (bytes : List ℕ) (replies : List Reply) (text : List ℕ) : Type 0 where
+pub record HasReadLines (lines : ℕ) (bytes : List ℕ) (replies : List Reply) (text : List ℕ) : Type 0 where
   pub count : length replies ≡ lines
   pub fit : All HasWordId replies
   pub cut : bytes ≡ reply_lines 0 replies ++ text
@@ -48,7 +48,7 @@ pub record AreRead (lines : ℕ) (bytes : List ℕ) (replies : List Reply) (text
 pub record IsFront {V : Type 0} (items : V → List Reply) (lines : ℕ) (bytes : List ℕ) (kept : Option V)
     (new : ℕ) (text : List ℕ) : Type 0 where
   pub replies : List Reply
-  pub read : AreRead lines bytes replies text
+  pub read : HasReadLines lines bytes replies text
   pub new_is : new ≡ count_by is_new replies
   pub kept_are : IfSome kept (λ v. items v ≡ replies)
 

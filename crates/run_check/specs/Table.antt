@@ -26,17 +26,17 @@ unfoldable pub vector_hash : Vector → ℕ
 vector_hash v = fold mixed 0 v
 
 -- a number whose low half also has what its high half has
-abbrev pub folded : ℕ → ℕ
-folded h = bit_xor h (h / 2 ^ 32)
+abbrev pub folded_key : ℕ → ℕ
+folded_key h = bit_xor h (h / 2 ^ 32)
 
--- the high half of a number that is folded and mixed twice, so that all its bits reach it and no multiples of
+-- the high half of a number that is folded_key and mixed twice, so that all its bits reach it and no multiples of
 -- a number lie in steps
 abbrev pub spread : ℕ → ℕ
-spread h = mixed (folded (mixed (folded h) 0)) 0 / 2 ^ 32
+spread h = mixed (folded_key (mixed (folded_key h) 0)) 0 / 2 ^ 32
 
-abbrev pub hash_of : Key → ℕ
-hash_of (k.Vector v) = spread (vector_hash v.now)
-hash_of (k.Identifier id) = spread id
+abbrev pub key_hash : Key → ℕ
+key_hash (k.Vector v) = spread (vector_hash v.now)
+key_hash (k.Identifier id) = spread id
 
 -- the slots of a table that are looked at for a hash, one after the other
 abbrev pub probe : ℕ → ℕ → ℕ → ℕ
@@ -67,7 +67,7 @@ pub record IsTableOf (trace : List Vector) (replies : List Reply) (i : ℕ) (vec
   pub some : 0 < length slots
   pub within : AreWithin i slots
   pub there : (line : ℕ) (key : Key) → line < i → HasKey trace replies line key → is_vector key ≡ vectors
-      → HasSlot slots (hash_of key) line
+      → HasSlot slots (key_hash key) line
 
 -- no line below a number has the key
 abbrev pub NoneHas : List Vector → List Reply → ℕ → Key → Type 0
@@ -78,10 +78,10 @@ abbrev pub IsLineOf : List Vector → List Reply → ℕ → Key → Option ℕ 
 IsLineOf trace replies i key None = NoneHas trace replies i key
 IsLineOf trace replies i key (Some line) = (line < i) × HasKey trace replies line key
 
-abbrev pub line_at : Place → Option ℕ
-line_at (p.Line line) = Some line
-line_at (p.Free slot) = None
-line_at p.Full = None
+abbrev pub line_of_place : Place → Option ℕ
+line_of_place (p.Line line) = Some line
+line_of_place (p.Free slot) = None
+line_of_place p.Full = None
 
 -- where the slot is free
 abbrev pub IsRoom : List ℕ → ℕ → Place → Type 0
@@ -91,13 +91,13 @@ IsRoom slots hash p.Full = Unit {0}
 
 abbrev pub IsPlaceOf : List Vector → List Reply → ℕ → Key → List ℕ → Place → Type 0
 IsPlaceOf trace replies i key slots place =
-    IsLineOf trace replies i key (line_at place) × IsRoom slots (hash_of key) place
+    IsLineOf trace replies i key (line_of_place place) × IsRoom slots (key_hash key) place
 
 -- a line is put at a free place
-abbrev pub PutAt : List ℕ → Place → ℕ → List ℕ → Type 0
-PutAt old (p.Line other) line new = ⊥
-PutAt old (p.Free slot) line new = new ≡ slice_set old slot (line + 1)
-PutAt old p.Full line new = ⊥
+abbrev pub StoredAt : List ℕ → Place → ℕ → List ℕ → Type 0
+StoredAt old (p.Line other) line new = ⊥
+StoredAt old (p.Free slot) line new = new ≡ slice_set old slot (line + 1)
+StoredAt old p.Full line new = ⊥
 
 -- what a search in a table finds, where it has the lines below a number
 abbrev pub IsFound : List Vector → List Reply → Key → List ℕ → Place → Type 0

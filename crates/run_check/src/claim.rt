@@ -3,7 +3,7 @@
 ghost use Rattle.std.specs.Prelude.{◌≡◌, ◌<◌, ◌≤◌, ◌+◌, ◌↔◌, ◌||◌, ◌≢◌, ◌/◌, ◌^◌, ℕ, true, false};
 ghost use Rattle.std.specs.Prelude.{IfOk, IsTrue, length};
 ghost use Rattle.run_check.specs.Claim.{AllBlockedIn, BlockedIn, FullNamedIn, HasBlock, HasLine, HasNext};
-ghost use Rattle.run_check.specs.Claim.{HasWorkers, IsFirst, IsFirstStuck, IsFirstUndone, IsReady, LoneIn};
+ghost use Rattle.run_check.specs.Claim.{HasWorkers, IsFirst, IsFirstStuck, IsFirstUndone, IsClaimReady, LoneIn};
 ghost use Rattle.run_check.specs.Claim.{PassesIn, SoundIn, left_in};
 ghost use Rattle.run_check.specs.Reached.{owner};
 
@@ -24,7 +24,7 @@ pub(crate) struct Claim<'a> {
 impl<'a> Claim<'a> {
     // The first lone line, from 0.
     pub(crate) fn lone(&self) -> Option<u64>
-        requires ready { IsReady self.now }
+        requires ready { IsClaimReady self.now }
         ensures few { HasNext result }
         ensures first { IsFirst result (LoneIn self.now) }
     {
@@ -38,7 +38,7 @@ impl<'a> Claim<'a> {
 
     // The first line that is full and named, from 0.
     pub(crate) fn full_named(&self) -> Option<u64>
-        requires ready { IsReady self.now }
+        requires ready { IsClaimReady self.now }
         ensures few { HasNext result }
         ensures first { IsFirst result (FullNamedIn self.now) }
     {
@@ -52,7 +52,7 @@ impl<'a> Claim<'a> {
 
     // The first line that isn't reached, from 0.
     pub(crate) fn stuck(&self, alloc: Global) -> Result<Option<u64>, NoMemory>
-        requires ready { IsReady self.now }
+        requires ready { IsClaimReady self.now }
         requires block { HasBlock self.now }
         requires workers { HasWorkers self.now }
         ensures few { IfOk result HasNext }
@@ -64,7 +64,7 @@ impl<'a> Claim<'a> {
 
     // Whether the line is answered seen, and none with its vector is answered new with its identifier.
     fn is_lone(&self, i: u64) -> bool
-        requires ready { IsReady self.now }
+        requires ready { IsClaimReady self.now }
         requires within { HasLine self.now i }
         ensures { IsTrue result ↔ LoneIn self.now i }
     {
@@ -82,7 +82,7 @@ impl<'a> Claim<'a> {
 
     // Whether the line is answered full, and its vector new.
     fn is_full_named(&self, i: u64) -> bool
-        requires ready { IsReady self.now }
+        requires ready { IsClaimReady self.now }
         requires within { HasLine self.now i }
         ensures { IsTrue result ↔ FullNamedIn self.now i }
     {
@@ -94,7 +94,7 @@ impl<'a> Claim<'a> {
 
     // The first line that isn't reached, by workers who have come as far as these numbers say.
     fn settled(&self, next: &mut [u64]) -> Option<u64>
-        requires ready { IsReady self.now }
+        requires ready { IsClaimReady self.now }
         requires block { HasBlock self.now }
         requires workers { HasWorkers self.now }
         requires sound { SoundIn self.now next.old }
@@ -107,7 +107,7 @@ impl<'a> Claim<'a> {
 
     // Brings all workers as far as they can go.
     fn settle(&self, next: &mut [u64])
-        requires ready { IsReady self.now }
+        requires ready { IsClaimReady self.now }
         requires block { HasBlock self.now }
         requires workers { HasWorkers self.now }
         requires sound { SoundIn self.now next.old }
@@ -119,7 +119,7 @@ impl<'a> Claim<'a> {
 
     // Brings each worker in turn as far as it can go then, and says whether one moved.
     fn round(&self, next: &mut [u64]) -> bool
-        requires ready { IsReady self.now }
+        requires ready { IsClaimReady self.now }
         requires block { HasBlock self.now }
         requires workers { HasWorkers self.now }
         requires sound { SoundIn self.now next.old }
@@ -137,7 +137,7 @@ impl<'a> Claim<'a> {
 
     // Brings a worker as far as it can go now, and says whether it moved.
     fn drain(&self, next: &mut [u64], j: usize) -> bool
-        requires ready { IsReady self.now }
+        requires ready { IsClaimReady self.now }
         requires block { HasBlock self.now }
         requires workers { HasWorkers self.now }
         requires one { j < self.now.workers }
@@ -157,7 +157,7 @@ impl<'a> Claim<'a> {
 
     // Whether the worker can go over the line at its number.
     fn may_pass(&self, next: &[u64], j: usize) -> bool
-        requires ready { IsReady self.now }
+        requires ready { IsClaimReady self.now }
         requires block { 0 < self.now.block }
         requires workers { HasWorkers self.now }
         requires count { length next.now ≡ self.now.workers }

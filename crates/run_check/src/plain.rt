@@ -4,7 +4,7 @@ ghost use Rattle.std.specs.Prelude.{◌≡◌, ◌<◌, ◌+◌, ◌^◌, ◌↔
 ghost use Rattle.std.specs.Prelude.{IfOk, IfSome, IsTrue, MatchOption, get_or, length};
 ghost use Rattle.tdb_base.specs.declared.reply.Reply.TheVariants as r;
 ghost use Rattle.run_check.specs.Claim.{HasNext, IsFirst};
-ghost use Rattle.run_check.specs.Plain.{AreReached, IsMarked, IsToMark, NewIsMarked};
+ghost use Rattle.run_check.specs.Plain.{AreReached, HasMark, IsToMark, NewHasMark};
 ghost use Rattle.run_check.specs.Reached.{Line, owner};
 ghost use Rattle.run_check.specs.Sentences.{IsFirstTwice, IsFullNamed, IsLone, IsSecond};
 ghost use Rattle.run_check.specs.Sentences.{IsTwice, IsVerdict, IsYesWhereHistory, NoTwice};
@@ -284,7 +284,7 @@ fn earlier_marked(workers: u64, block: u64, marks: &[bool], i: u64) -> bool
     requires block { 0 < block }
     requires within { i < length marks.now }
     ensures { IsTrue result ↔ ((k : ℕ) → k < i → owner workers block k ≡ owner workers block i
-        → IsMarked marks.now k) }
+        → HasMark marks.now k) }
 {
     for k in 0..i {
         if !is_done_for(workers, block, marks, i, k) {
@@ -299,7 +299,7 @@ fn is_done_for(workers: u64, block: u64, marks: &[bool], i: u64, k: u64) -> bool
     requires some { 0 < workers }
     requires block { 0 < block }
     requires within { k < length marks.now }
-    ensures { IsTrue result ↔ (owner workers block k ≡ owner workers block i → IsMarked marks.now k) }
+    ensures { IsTrue result ↔ (owner workers block k ≡ owner workers block i → HasMark marks.now k) }
 {
     if k / block % workers != i / block % workers {
         return true;
@@ -311,7 +311,7 @@ fn is_done_for(workers: u64, block: u64, marks: &[bool], i: u64, k: u64) -> bool
 fn new_marked(trace: &Trace, replies: &[Reply], marks: &[bool], vector: &[u32]) -> bool
     requires one_each { length replies.now ≡ length trace.now }
     requires count { length marks.now ≡ length trace.now }
-    ensures { IsTrue result ↔ NewIsMarked trace.now replies.now marks.now vector.now }
+    ensures { IsTrue result ↔ NewHasMark trace.now replies.now marks.now vector.now }
 {
     for m in 0..trace.len() {
         if is_marked_new(trace, replies, marks, vector, m) {
@@ -327,7 +327,7 @@ fn is_marked_new(trace: &Trace, replies: &[Reply], marks: &[bool], vector: &[u32
     requires count { length marks.now ≡ length trace.now }
     requires within { m < length trace.now }
     ensures { IsTrue result ↔
-        ((id : ℕ) × Line trace.now replies.now m vector.now (r.New id) × IsMarked marks.now m) }
+        ((id : ℕ) × Line trace.now replies.now m vector.now (r.New id) × HasMark marks.now m) }
 {
     if !marks[m as usize] {
         return false;

@@ -2,7 +2,7 @@
 
 ghost use Rattle.std.specs.Prelude.{◌≤◌, ◌<◌, ◌+◌, ◌^◌, IfErr, OnOk};
 ghost use Rattle.trace_csv.specs.Report.{named_line};
-ghost use Rattle.run_check.specs.Reading.{IsWord, Reads, ReadsWord};
+ghost use Rattle.run_check.specs.Reading.{IsReplyWord, Reads, ReadsWord};
 ghost use Rattle.run_check.specs.Refusal.{ReadsFixed, ReadsLine, RefusesAfter};
 ghost use Rattle.run_check.specs.Text.{IsSummary};
 
@@ -49,7 +49,7 @@ fn read_fixed<'a>(
 // The count of the text line with this number, which has a name, and what follows the line.
 fn read_count<'a>(text: &'a [u8], name: &[u8], line: u64) -> Result<(u64, &'a [u8]), ReportError>
     requires { line + 1 < 2 ^ 64 }
-    ensures { ReadsLine (named_line name.now) IsWord text.now line result }
+    ensures { ReadsLine (named_line name.now) IsReplyWord text.now line result }
 {
     match any_count(text, name) {
         Ok(read) => Ok(read),
@@ -68,7 +68,7 @@ fn after_count<'a>(text: &'a [u8], name: &[u8], count: u64) -> Result<&'a [u8], 
 
 // The count of a line with a name, and what follows the line.
 fn any_count<'a>(text: &'a [u8], name: &[u8]) -> Result<(u64, &'a [u8]), Fault>
-    ensures { Reads (named_line name.now) IsWord text.now result }
+    ensures { Reads (named_line name.now) IsReplyWord text.now result }
 {
     let named = after(text, name)?;
     number(named, b'\n')

@@ -1,7 +1,7 @@
 //! A hash table of a trace's lines that are answered new, looked up by their vectors or by their identifiers.
 
 ghost use Rattle.std.specs.Prelude.{◌≡◌, ◌<◌, ◌+◌, ◌^◌, ◌↔◌, ℕ, List, IsTrue, IfOk, OnOk, length, replicate};
-ghost use Rattle.run_check.specs.Table.{AreWithin, HasKey, IsFound, PutAt, folded, hash_of, line_at};
+ghost use Rattle.run_check.specs.Table.{AreWithin, HasKey, IsFound, StoredAt, folded_key, key_hash, line_of_place};
 ghost use Rattle.run_check.specs.Table.{mixed, spread, vector_hash};
 
 use std::alloc::Global;
@@ -34,7 +34,7 @@ impl Key<'_> {
 
     // Where the search for it begins, before it is cut to a table's size.
     fn hash(self) -> u64
-        ensures { result ≡ hash_of self.entry }
+        ensures { result ≡ key_hash self.entry }
     {
         match self {
             Key::Vector(vector) => spread(vector_hash(vector)),
@@ -64,11 +64,11 @@ fn mixed(hash: u64, slot: u64) -> u64
 fn spread(hash: u64) -> u64
     ensures { result ≡ spread hash }
 {
-    mixed(folded(mixed(folded(hash), 0)), 0) >> 32
+    mixed(folded_key(mixed(folded_key(hash), 0)), 0) >> 32
 }
 
-fn folded(hash: u64) -> u64
-    ensures { result ≡ folded hash }
+fn folded_key(hash: u64) -> u64
+    ensures { result ≡ folded_key hash }
 {
     hash ^ (hash >> 32)
 }
@@ -87,7 +87,7 @@ pub(crate) enum Place {
 impl Place {
     // The line that has the key.
     pub(crate) fn line(self) -> Option<u64>
-        ensures { result ≡ line_at self }
+        ensures { result ≡ line_of_place self }
     {
         match self {
             Place::Line(line) => Some(line),
@@ -144,7 +144,7 @@ impl LineTable {
     // Puts a line where its key was looked for. A table is never full, since it has more room than lines, and
     // no trace has 2^32 lines; both would be answered as want of memory.
     pub(crate) fn put(&mut self, place: Place, line: u64) -> Result<(), NoMemory>
-        ensures { OnOk result (PutAt self.old place line self.new) }
+        ensures { OnOk result (StoredAt self.old place line self.new) }
     {
         let Place::Free(slot) = place else {
             return Err(NoMemory);

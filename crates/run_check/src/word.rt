@@ -6,7 +6,7 @@ ghost use Rattle.std.specs.Char.{is_ascii_digit};
 ghost use Rattle.std.specs.Fmt.{decimal};
 ghost use Rattle.std.specs.List.{prefix_len};
 ghost use Rattle.std.specs.Str.Parse.{digits_value};
-ghost use Rattle.run_check.specs.Reading.{IsCapped, IsWord, Reads, ReadsWord, number_to};
+ghost use Rattle.run_check.specs.Reading.{IsCapped, IsReplyWord, Reads, ReadsWord, number_to};
 
 use itoa::Buffer;
 
@@ -43,7 +43,7 @@ pub(crate) fn after_number(text: &[u8], number: u64) -> Result<&[u8], Fault>
 // A number at the front of a text, and what follows the byte after it, which is to be this one.
 pub(crate) fn number(text: &[u8], stop: u8) -> Result<(u64, &[u8]), Fault>
     requires { is_ascii_digit stop ≡ false }
-    ensures { Reads (number_to stop) IsWord text.now result }
+    ensures { Reads (number_to stop) IsReplyWord text.now result }
 {
     let (value, count) = leading_number(text);
     let Some(value) = value else {

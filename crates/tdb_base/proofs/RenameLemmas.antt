@@ -10,7 +10,7 @@ use Rattle.tdb_base.specs.Agrees.{Agrees, AgreesOver, entries_of_insertion, entr
 use Rattle.tdb_base.specs.History.{Vector, Act, Put, Set, Clear, Look, Entry, History, calls, flags_after, flags_of, is_fresh, name_of, names, same}
 use Rattle.tdb_base.specs.Legal.{Allows, IsLegal}
 use Rattle.tdb_base.specs.Lines.{distinct, named}
-use Rattle.tdb_base.specs.Renamed.{place_of, renamed, renamed_entry}
+use Rattle.tdb_base.specs.Renamed.{position_of, renamed, renamed_entry}
 use Rattle.tdb_base.specs.declared.reply.Reply.{Reply}
 use Rattle.tdb_base.specs.declared.reply.Reply.TheVariants as r
 use Rattle.tdb_base.proofs.DistinctLemmas.{at-map, map-at}
@@ -187,7 +187,7 @@ agrees_apart {flag_count} {lines_of} {line_entries} {trace} {replies} {workers} 
     own e at = agrees.no_others h refl e (contained-at h e at)
 
 -- a number that stands at a single place stands at its place
-place-at : (numbers : List ℕ) (k n : ℕ) → ((i j : ℕ) → slice_get numbers i ≡ Some n → slice_get numbers j ≡ Some n → i ≡ j) → slice_get numbers k ≡ Some n → place_of numbers n ≡ k
+place-at : (numbers : List ℕ) (k n : ℕ) → ((i j : ℕ) → slice_get numbers i ≡ Some n → slice_get numbers j ≡ Some n → i ≡ j) → slice_get numbers k ≡ Some n → position_of numbers n ≡ k
 place-at numbers k n single at =
     let within = slice_get_within numbers k n at in
     position_or_len_is (λ (x : ℕ). x == n) numbers k n (omega arith) before (λ inside. here)
@@ -219,17 +219,17 @@ pub agrees-numbered : {flag_count : ℕ} {lines_of : ℕ → List ℕ} {line_ent
     {trace : List Vector} {replies : List Reply} {workers : ℕ} {h : History} {callers : List ℕ}
     → RenamesAlike line_entries → AgreesOver flag_count lines_of line_entries trace replies workers [] h callers
     → AgreesOver flag_count lines_of line_entries trace replies workers []
-    (renamed (place_of callers) h) (range_with_len 0 workers)
+    (renamed (position_of callers) h) (range_with_len 0 workers)
 agrees-numbered {flag_count} {lines_of} {line_entries} {trace} {replies} {workers} {h} {callers} alike agrees =
-    let numbers : map (place_of callers) callers ≡ range_with_len 0 workers =
-    map-places (place_of callers) callers 0 (λ k c at. place k c at ∙ omega arith) ∙ ap (range_with_len 0) agrees.among.callers_count in
-    subst (λ (t : List ℕ). AgreesOver flag_count lines_of line_entries trace replies workers [] (renamed (place_of callers) h) t) numbers
-    (agrees_apart (place_of callers) apart alike agrees)
+    let numbers : map (position_of callers) callers ≡ range_with_len 0 workers =
+    map-places (position_of callers) callers 0 (λ k c at. place k c at ∙ omega arith) ∙ ap (range_with_len 0) agrees.among.callers_count in
+    subst (λ (t : List ℕ). AgreesOver flag_count lines_of line_entries trace replies workers [] (renamed (position_of callers) h) t) numbers
+    (agrees_apart (position_of callers) apart alike agrees)
   where
-    place : (k c : ℕ) → slice_get callers k ≡ Some c → place_of callers c ≡ k
+    place : (k c : ℕ) → slice_get callers k ≡ Some c → position_of callers c ≡ k
     place k c at = place-at callers k c (λ i j a b. agrees.among.callers_differ i j c a b) at
 
-    apart : KeepsApart (place_of callers) callers
+    apart : KeepsApart (position_of callers) callers
     apart a b known other same =
         let here = at-contained callers a known in
         let there = at-contained callers b other in
@@ -239,5 +239,5 @@ agrees-numbered {flag_count} {lines_of} {line_entries} {trace} {replies} {worker
 
 pub agrees_renamed : (flag_count : ℕ) (trace : List Vector) (replies : List Reply) (workers block : ℕ) (h : History) (callers : List ℕ)
     → Agrees flag_count trace replies workers block [] h callers
-    → Agrees flag_count trace replies workers block [] (renamed (place_of callers) h) (range_with_len 0 workers)
+    → Agrees flag_count trace replies workers block [] (renamed (position_of callers) h) (range_with_len 0 workers)
 agrees_renamed flag_count trace replies workers block h callers agrees = agrees-numbered (insertion-renamed trace replies) agrees

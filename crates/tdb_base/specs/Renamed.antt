@@ -12,5 +12,5 @@ abbrev pub renamed : (ℕ → ℕ) → History → History
 renamed given h = map (renamed_entry given) h
 
 -- the place of the first element of a list that equals a number
-abbrev pub place_of : List ℕ → ℕ → ℕ
-place_of numbers n = position_or_len (λ x. x == n) numbers
+abbrev pub position_of : List ℕ → ℕ → ℕ
+position_of numbers n = position_or_len (λ x. x == n) numbers

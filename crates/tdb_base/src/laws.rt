@@ -8,7 +8,7 @@ ghost use Rattle.tdb_base.specs.Headline.{EachNewOnce, CountsDistinct};
 ghost use Rattle.tdb_base.specs.History.{Vector, History, flags_of, name_of};
 ghost use Rattle.tdb_base.specs.Legal.{IsLegal, IsNamedIn, KeepsNames, PutsOnly};
 ghost use Rattle.tdb_base.specs.Lines.{named};
-ghost use Rattle.tdb_base.specs.Renamed.{place_of, renamed};
+ghost use Rattle.tdb_base.specs.Renamed.{position_of, renamed};
 ghost use Rattle.tdb_base.specs.declared.reply.Reply.{Reply};
 
 /// In a legal history that goes on from another, each vector keeps the identifier that it had.
@@ -79,5 +79,5 @@ pub fn callers_may_be_renumbered()
         (h : History) (callers : List ℕ)
         → Agrees flag_count trace replies workers block [] h callers
         → Agrees flag_count trace replies workers block []
-        (renamed (place_of callers) h) (range_with_len 0 workers) }
+        (renamed (position_of callers) h) (range_with_len 0 workers) }
 {}

@@ -10,7 +10,7 @@ use Rattle.tdb_base.specs.History.{Vector, History, name_of}
 use Rattle.tdb_base.specs.Legal.{Extends, IsLegal}
 use Rattle.tdb_base.specs.declared.reply.Reply.{Reply}
 use Rattle.tdb_base.proofs.NameLemmas.{keeps-names, names-differ}
-use Rattle.treedb.specs.ReadBack.{Adds, HasRoom, KeepsRoom, new_id, new_ids}
+use Rattle.treedb.specs.ReadBack.{Adds, HasRoomFor, KeepsRoom, new_id, new_ids}
 use Rattle.treedb.specs.declared.distinct.ReadBack.{ReadBack}
 use Rattle.trace_csv.specs.Vectors.{vector_at, vectors_of}
 
@@ -81,14 +81,14 @@ room-there n m slots long is room =
     omega (arith, both, same, room)
 
 -- there is room for fewer, and after one more was added
-pub room-less : (more fewer : ℕ) (back : ReadBack) → HasRoom more back → fewer ≤ more → HasRoom fewer back
+pub room-less : (more fewer : ℕ) (back : ReadBack) → HasRoomFor more back → fewer ≤ more → HasRoomFor fewer back
 room-less more fewer back room le = record {
   flat = (let most = mul-le-mul_right {m = length back.order.items + fewer} {n = length back.order.items + more} back.slots (omega (arith, le)) in omega (arith, most, room.flat));
   order = omega (arith, room.order, le);
   few = omega (arith, room.few, le);
 }
 
-pub room-next : (more : ℕ) (old new : ReadBack) → HasRoom (more + 1) old → KeepsRoom old new → length new.order.items ≤ length old.order.items + 1 → HasRoom more new
+pub room-next : (more : ℕ) (old new : ReadBack) → HasRoomFor (more + 1) old → KeepsRoom old new → length new.order.items ≤ length old.order.items + 1 → HasRoomFor more new
 room-next more old new room keeps le = record {
   flat = (let most = mul-le-mul_right {m = length new.order.items + more} {n = length old.order.items + (more + 1)} old.slots (omega (arith, le)) in
       let same = ap (λ (x : ℕ). (length new.order.items + more) * x) keeps.slots in

@@ -5,7 +5,7 @@ use Rattle.run_check.specs.Cut.{IsWhole}
 use Rattle.run_check.specs.declared.verdict.Verdict.{Verdict}
 use Rattle.command_line.specs.declared.outcome.Choice.{Choice}
 use Rattle.treedb.specs.Check.{IsInput, IsWrongInput, Judged}
-use Rattle.treedb.specs.Reading.{EndsReading, GaveWithin, IsBadTrace, Refuses}
+use Rattle.treedb.specs.Reading.{EndsReading, GaveWithin, IsBadTrace, RefusesInput}
 use Rattle.treedb.specs.declared.ended.Ended.{Ended}
 use Rattle.treedb.specs.declared.ended.Ended.TheVariants as e
 
@@ -14,20 +14,20 @@ pub if_some : {A : Type 0} {P Q : A → Type 0} (o : Option A) → ((x : A) → 
 if_some None f p = p
 if_some (Some x) f p = f x p
 
-module _ {T : Type 0} (c : Choice) (bytes : List ℕ) (result : Result T Ended) (refused : IfErr result (Refuses c bytes)) where
+module _ {T : Type 0} (c : Choice) (bytes : List ℕ) (result : Result T Ended) (refused : IfErr result (RefusesInput c bytes)) where
   -- bytes that were read are not too much, and are no fault of their source
   pub not_too_much : result ≡ Err e.TooMuch → ⊥
-  not_too_much is = subst (λ (r : Result T Ended). IfErr r (Refuses c bytes)) is refused
+  not_too_much is = subst (λ (r : Result T Ended). IfErr r (RefusesInput c bytes)) is refused
 
   pub no_read_fault : result ≡ Err e.ReadFault → ⊥
-  no_read_fault is = subst (λ (r : Result T Ended). IfErr r (Refuses c bytes)) is refused
+  no_read_fault is = subst (λ (r : Result T Ended). IfErr r (RefusesInput c bytes)) is refused
 
   -- what the source gave is what it gave in reading
   pub gave_then : {A : Type 0} (old new : Option (List ℕ)) (input : A) → GaveWithin {T = A} old new (Ok input) → GaveWithin old new result
   gave_then old new input g = record { gave = g.gave; given = g.given; too_much = (λ t. absurd (not_too_much t), λ less. let no = g.too_much.1 less in cc no) }
 
 -- they are all that the source told
-pub ends_reading : (c : Choice) (told : Option (List ℕ)) (bytes : List ℕ) → IfSome told (λ b. bytes ≡ b) → (ended : Ended) → Refuses c bytes ended → EndsReading c told ended
+pub ends_reading : (c : Choice) (told : Option (List ℕ)) (bytes : List ℕ) → IfSome told (λ b. bytes ≡ b) → (ended : Ended) → RefusesInput c bytes ended → EndsReading c told ended
 ends_reading c told bytes all (e.BadTrace refusal) r = if_some told (λ b is. subst (λ (x : List ℕ). IsBadTrace c x refusal) is r) all
 ends_reading c told bytes all e.NoReport r = (r.0, if_some told (λ b is. subst (λ (x : List ℕ). IsWhole x) is r.1) all)
 ends_reading c told bytes all (e.WrongReport line) r = (r.0, if_some told (λ b is. subst (λ (x : List ℕ). IsWrongInput c x line) is r.1) all)
@@ -40,7 +40,7 @@ ends_reading c told bytes all e.ReadFault r = absurd r
 ends_reading c told bytes all e.WriteFault r = r
 ends_reading c told bytes all e.Refuted r = r
 
-pub ends_all : {T : Type 0} (c : Choice) (told : Option (List ℕ)) (bytes : List ℕ) (result : Result T Ended) → IfSome told (λ b. bytes ≡ b) → IfErr result (Refuses c bytes)
+pub ends_all : {T : Type 0} (c : Choice) (told : Option (List ℕ)) (bytes : List ℕ) (result : Result T Ended) → IfSome told (λ b. bytes ≡ b) → IfErr result (RefusesInput c bytes)
     → IfErr result (EndsReading c told)
 ends_all c told bytes (Ok input) all r = r
 ends_all c told bytes (Err ended) all r = ends_reading c told bytes all ended r

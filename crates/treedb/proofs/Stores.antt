@@ -5,7 +5,7 @@ use Rattle.std.specs.List.{list_any, range_with_len}
 use Rattle.tree_shape.specs.Tree.{Has}
 use Rattle.tdb_base.specs.Agrees.{Agrees}
 use Rattle.tdb_base.specs.History.{Vector, History}
-use Rattle.tdb_base.specs.Renamed.{renamed, place_of}
+use Rattle.tdb_base.specs.Renamed.{renamed, position_of}
 use Rattle.tdb_base.specs.Replies.{is_new, is_full, id_of}
 use Rattle.tdb_base.specs.declared.reply.Reply.{Reply}
 use Rattle.tdb_base.specs.declared.reply.Reply.TheVariants as r
@@ -76,7 +76,7 @@ module _ (c : Choice) (trace : List Vector) (replies : List Reply) (store : Stor
   callers = one.0
 
   abbrev pub history : History
-  history = renamed (place_of one.0) (view last).seen
+  history = renamed (position_of one.0) (view last).seen
 
   none_seen : (view first).seen ≡ []
   none_seen = ap (λ (v : View Roots). v.seen) new
@@ -129,7 +129,7 @@ module _ (c : Choice) (trace : List Vector) (replies : List Reply) (store : Stor
     nodes = (view last).known;
     roots = (view last).root.roots;
     about_is = about_is;
-    housed = housed_renamed store.about (view last).known (view last).root.roots (place_of one.0) (view last).seen
+    housed = housed_renamed store.about (view last).known (view last).root.roots (position_of one.0) (view last).seen
         (subst (λ (a : About). Housed a (plain.house a) (view last).known (view last).root.roots (view last).seen) (let e : store.about ≡ store.about = refl in e) (has_all store last rests (whole begins)).housed);
     filled = filled_run;
     barred = full;

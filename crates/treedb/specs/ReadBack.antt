@@ -17,7 +17,7 @@ abbrev pub vectors : ReadBack → List Vector
 vectors back = vectors_of back.slots back.flat.items back.order.items
 
 -- there is room for so many more vectors and their numbers
-pub record HasRoom (more : ℕ) (back : ReadBack) : Type 0 where
+pub record HasRoomFor (more : ℕ) (back : ReadBack) : Type 0 where
   pub flat : (length back.order.items + more) * back.slots ≤ length back.flat.items
   pub order : length back.order.items + more ≤ vec_capacity back.order
   pub few : length back.order.items + more ≤ 2 ^ 32
@@ -27,7 +27,7 @@ pub record AwaitsLines (slots lines : ℕ) (back : ReadBack) : Type 0 where
   pub slots_are : back.slots ≡ slots
   pub range : (2 ≤ slots) × (slots ≤ 1024)
   pub empty : back.order.items ≡ []
-  pub room : HasRoom lines back
+  pub room : HasRoomFor lines back
 
 -- no room is lost
 pub record KeepsRoom (old new : ReadBack) : Type 0 where

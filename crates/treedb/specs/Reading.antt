@@ -28,18 +28,18 @@ abbrev pub IsBadTrace : Choice → List ℕ → Refusal → Type 0
 IsBadTrace c bytes refusal = (text : List ℕ) × IsTraceText c.job bytes text × IsRefusedFor c text refusal
 
 -- a run ends with a refusal of the bytes that are its input, or for want of memory
-abbrev pub Refuses : Choice → List ℕ → Ended → Type 0
-Refuses c bytes (e.BadTrace refusal) = IsBadTrace c bytes refusal
-Refuses c bytes e.NoReport = (c.job ≡ Check) × IsWhole bytes
-Refuses c bytes (e.WrongReport line) = (c.job ≡ Check) × IsWrongInput c bytes line
-Refuses c bytes e.NoMemory = Unit {0}
-Refuses c bytes e.Done = ⊥
-Refuses c bytes e.Usage = ⊥
-Refuses c bytes e.TooMuch = ⊥
-Refuses c bytes (e.Full lines) = ⊥
-Refuses c bytes e.ReadFault = ⊥
-Refuses c bytes e.WriteFault = ⊥
-Refuses c bytes e.Refuted = ⊥
+abbrev pub RefusesInput : Choice → List ℕ → Ended → Type 0
+RefusesInput c bytes (e.BadTrace refusal) = IsBadTrace c bytes refusal
+RefusesInput c bytes e.NoReport = (c.job ≡ Check) × IsWhole bytes
+RefusesInput c bytes (e.WrongReport line) = (c.job ≡ Check) × IsWrongInput c bytes line
+RefusesInput c bytes e.NoMemory = Unit {0}
+RefusesInput c bytes e.Done = ⊥
+RefusesInput c bytes e.Usage = ⊥
+RefusesInput c bytes e.TooMuch = ⊥
+RefusesInput c bytes (e.Full lines) = ⊥
+RefusesInput c bytes e.ReadFault = ⊥
+RefusesInput c bytes e.WriteFault = ⊥
+RefusesInput c bytes e.Refuted = ⊥
 
 -- or it ends so because its source gave no input
 abbrev pub EndsReading : Choice → Option (List ℕ) → Ended → Type 0

@@ -10,7 +10,7 @@ ghost use Rattle.run_check.specs.Cut.{IsWhole};
 ghost use Rattle.trace_csv.specs.Input.{limit};
 ghost use Rattle.treedb.specs.Lines.{IsCutInto};
 ghost use Rattle.treedb.specs.Outcome.{EndsAs};
-ghost use Rattle.treedb.specs.Reading.{EndsReading, GaveWithin, ReadsToEnd, Refuses};
+ghost use Rattle.treedb.specs.Reading.{EndsReading, GaveWithin, ReadsToEnd, RefusesInput};
 
 use crate::ended::Ended;
 use crate::input::{bytes_of, lines_of};
@@ -37,7 +37,7 @@ fn judge(alloc: Global, choice: &Choice, bytes: &[u8]) -> Result<Verdict, Ended>
     requires job { choice.now.job ≡ Job.Check }
     requires within { length bytes.now ≤ limit }
     ensures judged { IfOk result (Judged choice.now (Some bytes.now)) }
-    ensures refused { IfErr result (Refuses choice.now bytes.now) }
+    ensures refused { IfErr result (RefusesInput choice.now bytes.now) }
 {
     let Some((text, report)) = cut(bytes) else {
         return Err(Ended::NoReport);

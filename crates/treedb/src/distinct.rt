@@ -10,7 +10,7 @@ ghost use Rattle.pair_rule.specs.Rest.{AtRest, view};
 ghost use Rattle.root_plain.specs.Plain.{plain};
 ghost use Rattle.trace_csv.specs.Sorted.{list_order};
 ghost use Rattle.trace_csv.specs.Vectors.{vector_at as vector_of_number};
-ghost use Rattle.treedb.specs.ReadBack.{Adds, AwaitsLines, HasRoom, IfPrinted, IsCounted, IsReadBy};
+ghost use Rattle.treedb.specs.ReadBack.{Adds, AwaitsLines, HasRoomFor, IfPrinted, IsCounted, IsReadBy};
 ghost use Rattle.treedb.specs.ReadBack.{KeepsRoom, ReadsInto, new_id, new_ids, vectors};
 ghost use Rattle.tree_store.specs.Store.{Advanced};
 ghost use Rattle.command_line.specs.Valid.{IsValid};
@@ -98,7 +98,7 @@ impl ReadBack {
         requires rest { AtRest plain store.now pass.old }
         requires named { (vector : List ℕ) × (name_of (view pass.old).seen vector ≡ Some id) }
         requires slots { self.old.slots ≡ store.now.about.slots }
-        requires room { HasRoom 1 self.old }
+        requires room { HasRoomFor 1 self.old }
         requires counted { IsCounted self.old }
         ensures rest { AtRest plain store.now pass.new }
         ensures no_call { Advanced plain [] (view pass.old) (view pass.new) }
@@ -127,7 +127,7 @@ impl ReadBack {
         requires named { IfSome (new_id reply)
             (λ id. (vector : List ℕ) × (name_of (view pass.old).seen vector ≡ Some id)) }
         requires slots { self.old.slots ≡ store.now.about.slots }
-        requires room { HasRoom 1 self.old }
+        requires room { HasRoomFor 1 self.old }
         requires counted { IsCounted self.old }
         ensures rest { AtRest plain store.now pass.new }
         ensures later { Extends (view pass.old).seen (view pass.new).seen }
@@ -154,10 +154,10 @@ impl ReadBack {
             (λ reply. IfSome (new_id reply)
             (λ id. (vector : List ℕ) × (name_of (view pass.old).seen vector ≡ Some id))) replies.now }
         requires slots { self.old.slots ≡ store.now.about.slots }
-        requires room { HasRoom (length replies.now) self.old }
+        requires room { HasRoomFor (length replies.now) self.old }
         requires empty { self.old.order.items ≡ [] }
         ensures slots { self.new.slots ≡ self.old.slots }
-        ensures room { HasRoom 0 self.new }
+        ensures room { HasRoomFor 0 self.new }
         ensures counted { IsCounted self.new }
         ensures names { map (name_of (view pass.old).seen) (vectors self.new) ≡ map Some
             (new_ids replies.now) }

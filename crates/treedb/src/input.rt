@@ -7,7 +7,7 @@ ghost use Rattle.trace_csv.specs.Input.{limit};
 ghost use Rattle.trace_csv.specs.Trace.{Unsigned, trace_of};
 ghost use Rattle.command_line.specs.Valid.{IsValid};
 ghost use Rattle.treedb.specs.Lines.{IsTraceText, read_lines, takes_lines};
-ghost use Rattle.treedb.specs.Reading.{EndsReading, GaveWithin, ReadsToEnd, Refuses};
+ghost use Rattle.treedb.specs.Reading.{EndsReading, GaveWithin, ReadsToEnd, RefusesInput};
 
 use crate::ended::{Ended, Refusal};
 use command_line::{Choice, Job, Mode};
@@ -39,7 +39,7 @@ pub fn lines_of(alloc: Global, choice: &Choice, bytes: &[u8]) -> Result<Trace, E
     ensures few { IfOk result (λ trace. length trace ≤ length bytes.now) }
     ensures below { IfOk result (λ trace. All (λ line. All (λ n. n < 2 ^ choice.now.profile) line) trace) }
     ensures refused { (input : List ℕ) → IsTraceText choice.now.job input bytes.now
-        → IfErr result (Refuses choice.now input) }
+        → IfErr result (RefusesInput choice.now input) }
 {
     match read_trace(alloc, bytes, choice.profile) {
         Ok(trace) => {

@@ -12,11 +12,11 @@ use Rattle.tdb_base.proofs.ListLemmas.{at-range, at-filter}
 use Rattle.tdb_base.proofs.DistinctLemmas.{mine-more}
 use Rattle.tdb_base.proofs.TallyLemmas.{contained-at}
 use Rattle.work_run.specs.Dealing.{WithinTheTrace, OneWorkerEach, OneTurnEach, EachHasAWorker, OneWorkerHasAll}
-use Rattle.work_run.proofs.Rounds.{line_at, share, share_none, share_more, share_kept, line_of_share, line_of_number, number_small, share_above, share_below}
+use Rattle.work_run.proofs.Rounds.{dealt_line, share, share_none, share_more, share_kept, line_of_share, line_of_number, number_small, share_above, share_below}
 
 module _ (workers block worker : ℕ) (some : 0 < block) (among : worker < workers) where
   numbered : ℕ → List ℕ
-  numbered n = map (line_at workers block worker) (range_with_len 0 n)
+  numbered n = map (dealt_line workers block worker) (range_with_len 0 n)
 
   step : (i : ℕ) → mine i workers block worker ≡ numbered (share workers block worker i)
       → mine (i + 1) workers block worker ≡ numbered (share workers block worker (i + 1))
@@ -27,7 +27,7 @@ module _ (workers block worker : ℕ) (some : 0 < block) (among : worker < worke
       ∙ ap (λ (t : Bool). mine i workers block worker ++ cond t (i ∷ []) []) (eq-eqb (i / block % workers) worker own)
       ∙ ap (λ (xs : List ℕ). xs ++ i ∷ []) so_far
       ∙ ap (λ (n : ℕ). numbered (share workers block worker i) ++ n ∷ []) (sym (line_of_share workers block worker some among i own))
-      ∙ sym (map-range_with_len_more (line_at workers block worker) 0 (share workers block worker i) (share workers block worker i) (omega arith))
+      ∙ sym (map-range_with_len_more (dealt_line workers block worker) 0 (share workers block worker i) (share workers block worker i) (omega arith))
       ∙ ap numbered (sym (share_more workers block worker some among i own)))
       (λ (other : i / block % workers ≡ worker → ⊥).
       mine-more i workers block worker
@@ -44,31 +44,31 @@ module _ (workers block worker : ℕ) (some : 0 < block) (among : worker < worke
   by_numbers (suc i) =
       subst (λ (n : ℕ). mine n workers block worker ≡ numbered (share workers block worker n)) (add-one i) (step i (by_numbers i))
 
-  pub mine-numbers : (lines : ℕ) → mine lines workers block worker ≡ map (line_at workers block worker) (range_with_len 0 (share workers block worker lines))
+  pub mine-numbers : (lines : ℕ) → mine lines workers block worker ≡ map (dealt_line workers block worker) (range_with_len 0 (share workers block worker lines))
   unfolding numbered
   mine-numbers lines = by_numbers lines
 
   pub mine-length : (lines : ℕ) → length (mine lines workers block worker) ≡ share workers block worker lines
   mine-length lines =
-      ap length (mine-numbers lines) ∙ length-map-range_with_len (line_at workers block worker) 0 (share workers block worker lines)
+      ap length (mine-numbers lines) ∙ length-map-range_with_len (dealt_line workers block worker) 0 (share workers block worker lines)
 
   -- the line with a number, and the end of a worker's lines
-  pub mine-at : (lines n : ℕ) → line_at workers block worker n < lines
-      → slice_get (mine lines workers block worker) n ≡ Some (line_at workers block worker n)
+  pub mine-at : (lines n : ℕ) → dealt_line workers block worker n < lines
+      → slice_get (mine lines workers block worker) n ≡ Some (dealt_line workers block worker n)
   mine-at lines n below =
       let inside = share_above workers block worker some among n lines below in
       ap (λ (xs : List ℕ). slice_get xs n) (mine-numbers lines)
-      ∙ slice_get-map (line_at workers block worker) (range_with_len 0 (share workers block worker lines)) n
-      ∙ ap (option_map (line_at workers block worker)) (at-range 0 (share workers block worker lines) n inside)
-      ∙ ap (λ (k : ℕ). Some (line_at workers block worker k)) (omega arith)
+      ∙ slice_get-map (dealt_line workers block worker) (range_with_len 0 (share workers block worker lines)) n
+      ∙ ap (option_map (dealt_line workers block worker)) (at-range 0 (share workers block worker lines) n inside)
+      ∙ ap (λ (k : ℕ). Some (dealt_line workers block worker k)) (omega arith)
 
-  pub mine-longer : (lines n : ℕ) → line_at workers block worker n < lines → n < length (mine lines workers block worker)
+  pub mine-longer : (lines n : ℕ) → dealt_line workers block worker n < lines → n < length (mine lines workers block worker)
   mine-longer lines n below = omega (arith, mine-length lines, share_above workers block worker some among n lines below)
 
-  pub mine-ends : (lines n : ℕ) → lines ≤ line_at workers block worker n → length (mine lines workers block worker) ≤ n
+  pub mine-ends : (lines n : ℕ) → lines ≤ dealt_line workers block worker n → length (mine lines workers block worker) ≤ n
   mine-ends lines n past = omega (arith, mine-length lines, share_below workers block worker some among n lines past)
 
-  pub mine-past : (lines n : ℕ) → lines ≤ line_at workers block worker n → slice_get (mine lines workers block worker) n ≡ None
+  pub mine-past : (lines n : ℕ) → lines ≤ dealt_line workers block worker n → slice_get (mine lines workers block worker) n ≡ None
   mine-past lines n past = slice_get_past (mine lines workers block worker) n (mine-ends lines n past)
 
 -- a line is found under its worker and its number

@@ -4,8 +4,8 @@ use Rattle.std.proofs.lemmas.Bool.{cases_lt, cases_order}
 use Rattle.std.proofs.lemmas.Nat.{row_fits, row_fits_turned, div-mul-add, mod-mul-add, mod_below, mul-le, div-add-mod', same_from_place}
 
 -- the line that a worker has after n others
-abbrev pub line_at : ℕ → ℕ → ℕ → ℕ → ℕ
-line_at workers block worker n = n / block * (block * workers) + worker * block + n % block
+abbrev pub dealt_line : ℕ → ℕ → ℕ → ℕ → ℕ
+dealt_line workers block worker n = n / block * (block * workers) + worker * block + n % block
 
 -- how many of the first lines a worker has
 abbrev pub share : ℕ → ℕ → ℕ → ℕ → ℕ
@@ -138,7 +138,7 @@ module _ (workers block worker : ℕ) (some : 0 < block) (among : worker < worke
       let t_below = mod_below i block some in
       omega arith
 
-  pub line_of_number : (i : ℕ) → i / block % workers ≡ worker → line_at workers block worker (i / round * block + i % block) ≡ i
+  pub line_of_number : (i : ℕ) → i / block % workers ≡ worker → dealt_line workers block worker (i / round * block + i % block) ≡ i
   line_of_number i own =
       let place = own_place i own in
       let t_below = mod_below i block some in
@@ -154,11 +154,11 @@ module _ (workers block worker : ℕ) (some : 0 < block) (among : worker < worke
       let rows = mul-le (i / round) block (i / round) round (omega arith) (omega arith) in
       omega (arith, in_round i)
 
-  pub line_of_share : (i : ℕ) → i / block % workers ≡ worker → line_at workers block worker (share workers block worker i) ≡ i
-  line_of_share i own = ap (line_at workers block worker) (share_at_own i own) ∙ line_of_number i own
+  pub line_of_share : (i : ℕ) → i / block % workers ≡ worker → dealt_line workers block worker (share workers block worker i) ≡ i
+  line_of_share i own = ap (dealt_line workers block worker) (share_at_own i own) ∙ line_of_number i own
 
   -- a number is below the share of the first lines exactly where its line is one of them
-  pub share_above : (n lines : ℕ) → line_at workers block worker n < lines → n < share workers block worker lines
+  pub share_above : (n lines : ℕ) → dealt_line workers block worker n < lines → n < share workers block worker lines
   share_above n lines below =
       let number = div-add-mod' n block in
       let t_below = mod_below n block some in
@@ -175,7 +175,7 @@ module _ (workers block worker : ℕ) (some : 0 < block) (among : worker < worke
       other)
       (cases_order (n / block) (lines / round))
 
-  pub share_below : (n lines : ℕ) → lines ≤ line_at workers block worker n → share workers block worker lines ≤ n
+  pub share_below : (n lines : ℕ) → lines ≤ dealt_line workers block worker n → share workers block worker lines ≤ n
   share_below n lines past =
       let number = div-add-mod' n block in
       let t_below = mod_below n block some in

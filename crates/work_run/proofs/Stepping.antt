@@ -6,7 +6,7 @@ use Rattle.std.proofs.lemmas.Bool.{cases_eq, cases_lt, eq-eqb, ne_eqb, lt-ltb, l
 use Rattle.std.proofs.lemmas.Nat.{mod_below, mod-mul-add}
 use Rattle.std.proofs.Math.Nat.{mod-eq_of_lt, add-mod_left, pos_of_ne-zero}
 use Rattle.tdb_base.specs.Lines.{mine}
-use Rattle.work_run.specs.ToCome.{is_dealt, lines_to_come, IsUnderway}
+use Rattle.work_run.specs.ToCome.{is_dealt, lines_to_come, AreUnderway}
 use Rattle.work_run.proofs.Rounds.{in_round, place_below, own_place, own_by_place, block_within}
 
 -- two tests that agree from a number on keep the same numbers from there on
@@ -38,7 +38,7 @@ pass_over p (suc k) from n none = ⊎_elim
     (cases_lt from n)
 
 -- ---- a step
-module _ (lines block gap next block_end : ℕ) (at : IsUnderway lines block gap next block_end) where
+module _ (lines block gap next block_end : ℕ) (at : AreUnderway lines block gap next block_end) where
   abbrev start : ℕ
   start = block_end - block
 

@@ -15,7 +15,7 @@ lines_to_come lines block gap next block_end =
     filter (is_dealt (block_end - block) block (block + gap)) (range_with_len next (lines - next))
 
 -- the next line stands in a block, and all numbers are small
-pub record IsUnderway (lines block gap next block_end : ℕ) : Type 0 where
+pub record AreUnderway (lines block gap next block_end : ℕ) : Type 0 where
   pub few : lines ≤ 2 ^ 32
   pub small : block ≤ 65536
   pub gap_small : gap ≤ 2 ^ 32

@@ -20,13 +20,13 @@ pub(crate) struct Turns {
 
 impl Model for Turns {
     ghost use Rattle.std.specs.Prelude.{ℕ, List};
-    ghost use Rattle.work_run.specs.ToCome.{lines_to_come, IsUnderway};
+    ghost use Rattle.work_run.specs.ToCome.{lines_to_come, AreUnderway};
 
     ghost Value = { List ℕ };
 
     ghost view = { λ t. lines_to_come t.lines t.block t.gap t.next t.block_end };
 
-    ghost invariant = { λ t. IsUnderway t.lines t.block t.gap t.next t.block_end };
+    ghost invariant = { λ t. AreUnderway t.lines t.block t.gap t.next t.block_end };
 }
 
 impl Turns {

@@ -6,7 +6,7 @@ use Rattle.tdb_base.specs.History.{Act, is_fresh}
 use Rattle.region_root.specs.declared.root.Regions.{Regions}
 use Rattle.pair_rule.specs.declared.pass.PassOf.{PassOf}
 use Rattle.pair_rule.specs.Rest.{view}
-use Rattle.region_root.specs.Maps.{Acts, flagged}
+use Rattle.region_root.specs.Maps.{Acts, with_flag_set}
 use Rattle.region_root.specs.Plays.{Told}
 use Rattle.region_root.specs.Told.{flag_act}
 use Rattle.region_root.specs.Work.{AtWork, held_words}
@@ -29,10 +29,10 @@ unlock-requires g c =
     let has = subst (λ (k : ℕ). Has (c.args.pair, k) w.0.base) (sym f.0) w.5.1 in
     let value = c.turn_flag-value.result.value in
     let keeps = c.set_root_flags.ensures.flagged w.0 work.held in
-    let acts = subst (λ (n : ℕ). Acts n c.args.pair (act_of c.turn_flag-value.result.act) w.0.base (flagged c.args.pair value w.0.base)) (sym c.requires.width.0) (c.turn_flag-value.ensures.acts c.args.pair w.0.base has) in
+    let acts = subst (λ (n : ℕ). Acts n c.args.pair (act_of c.turn_flag-value.result.act) w.0.base (with_flag_set c.args.pair value w.0.base)) (sym c.requires.width.0) (c.turn_flag-value.ensures.acts c.args.pair w.0.base has) in
     let old : is_fresh (act_of c.turn_flag-value.result.act) ≡ false = ap is_fresh c.turn_flag-value.ensures.act ∙ flag_old c.args.set c.args.b c.turn_flag-value.result.first in
     let region = ap (λ (p : Place). p.region) (sym c.requires.root.1) ∙ sym w.2 in
-    (omega arith, (omega arith, (record w.0 { copy = held_words c.set_root_flags.new.pass }, flagged c.args.pair value w.0.base, c.set_root_flags.ensures.rewrites.work w.0 work, w.2, w.3, keeps, (region, c.requires.root.0, acts, (λ new. absurd (true≢false (sym new ∙ old)))))))
+    (omega arith, (omega arith, (record w.0 { copy = held_words c.set_root_flags.new.pass }, with_flag_set c.args.pair value w.0.base, c.set_root_flags.ensures.rewrites.work w.0 work, w.2, w.3, keeps, (region, c.requires.root.0, acts, (λ new. absurd (true≢false (sym new ∙ old)))))))
 
 pub returns-clause-told : goal.returns-clause-told
 returns-clause-told g c = λ h held.

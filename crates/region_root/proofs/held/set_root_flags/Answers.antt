@@ -4,7 +4,7 @@ use Rattle.region_root.specs.declared.root.Holding.{Holding}
 use Rattle.mix_hash.specs.declared.Place.{Place}
 use Rattle.cleary_core.specs.declared.cells.Sizes.{Sizes}
 use Rattle.region_root.specs.Layout.{KeepsRoots}
-use Rattle.region_root.specs.Maps.{InRegion, flagged}
+use Rattle.region_root.specs.Maps.{InRegion, with_flag_set}
 use Rattle.region_root.specs.Reached.{held_is}
 use Rattle.region_root.specs.Work.{held_words}
 use Rattle.region_root.proofs.Catching.{head_of}
@@ -45,5 +45,5 @@ returns-clause-flagged g c = λ h held.
     let one = head_of w.0 h (view c.args.pass.now).root.held w.1.held held in
     let keeps = subst (λ (l : List ℕ). KeepsRoots about l w.0.base) (sym (held_is c.args.pass.now w.0 w.1.held)) w.3 in
     let inside = subst (λ (p : Place). InRegion about p.region w.0.base) c.requires.root.1 (subst (λ (k : ℕ). InRegion about k w.0.base) w.2 w.1.inside) in
-    subst (λ (u : Holding). KeepsRoots about (held_words c.set_flags_held.new.pass) (flagged c.args.pair c.args.value u.base)) one
+    subst (λ (u : Holding). KeepsRoots about (held_words c.set_flags_held.new.pass) (with_flag_set c.args.pair c.args.value u.base)) one
     (flagged_kept about is c.args.pair c.requires.root.0 c.over-region.result z c.args.at.now c.requires.root.1 (held_words c.args.pass.now) w.0.base keeps c.args.value (held_words c.set_flags_held.new.pass) inside c.set_flags_held.ensures.flagged)

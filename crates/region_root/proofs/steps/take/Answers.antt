@@ -1,7 +1,7 @@
 use Rattle.std.proofs.Common.{arith, refl, sym, ap, ◌∙◌, subst, ◌+◌, ◌<◌, ℕ, suc}
 use Rattle.std.proofs.lemmas.Bool.{eqb-true, eqb-false}
 use Rattle.pair_rule.specs.Rest.{view}
-use Rattle.region_root.specs.Plays.{Taken}
+use Rattle.region_root.specs.Plays.{TakenRegion}
 use Rattle.region_root.proofs.Working.{take_allowed, locked, same_seat, lock_here}
 use Rattle.region_root.proofs.steps.take.Goals as goal
 
@@ -18,9 +18,9 @@ returns-clause-won g c =
     let e = c.compare_exchange.ensures in
     λ yes.
     let t = e.2.1 (eqb-true c.compare_exchange.result c.args.even yes) in
-    let taken = subst (λ (k : ℕ). Taken k (c.args.even + 1) (view c.args.pass.now) c.compare_exchange.new.seat.me.0) (lock_here g.row.W g.row.F c.args.table.now c.args.pass.now c.args.region c.lock_word-word.result c.requires.rest c.lock_word-word.ensures.place) t in
+    let taken = subst (λ (k : ℕ). TakenRegion k (c.args.even + 1) (view c.args.pass.now) c.compare_exchange.new.seat.me.0) (lock_here g.row.W g.row.F c.args.table.now c.args.pass.now c.args.region c.lock_word-word.result c.requires.rest c.lock_word-word.ensures.place) t in
     locked g.row.W g.row.F c.args.table.now c.args.pass.now _ c.args.region (suc c.args.even) c.requires.rest e.0 e.2.0 refl c.requires.region (c.requires.even.0.0, ap suc c.requires.even.0.1)
-    (subst (λ (k : ℕ). Taken c.args.region k (view c.args.pass.now) c.compare_exchange.new.seat.me.0) (omega arith) taken)
+    (subst (λ (k : ℕ). TakenRegion c.args.region k (view c.args.pass.now) c.compare_exchange.new.seat.me.0) (omega arith) taken)
 
 pub returns-clause-lost : goal.returns-clause-lost
 returns-clause-lost g c =

@@ -1,7 +1,7 @@
 use Rattle.std.proofs.Common.{arith, refl, sym, ap, ◌∙◌, subst, ◌≡◌, ◌+◌, ◌<◌, ℕ}
 use Rattle.pair_rule.specs.Plays.{first_root}
 use Rattle.region_root.specs.Layout.{regions}
-use Rattle.region_root.specs.Plays.{IsNext}
+use Rattle.region_root.specs.Plays.{IsNextLock}
 use Rattle.region_root.specs.Work.{ending_of, gives_name}
 use Rattle.region_root.proofs.Resting.{mark, free_allowed, few_names, freed_rests}
 use Rattle.region_root.proofs.steps.unlock.Goals as goal
@@ -16,7 +16,7 @@ swap_ending-requires-clause-rule g c =
     let w = c.requires.work in
     let here : first_root c.args.table.now.about + w.0.region ≡ c.lock_word-word.result = ap (λ (k : ℕ). first_root c.args.table.now.about + k) w.3 ∙ sym c.lock_word-word.ensures.place in
     free_allowed g.row.W g.row.F c.args.table.now w.0 c.args.pass.now w.2 c.shared.result.now.key.about _ c.lock_word-word.result c.next_even.result (ending_of c.args.ending.now) w.1 c.shared.ensures.key here
-    (subst (λ (o : ℕ). IsNext o c.next_even.result) (sym w.4) c.next_even.ensures) w.5 w.6
+    (subst (λ (o : ℕ). IsNextLock o c.next_even.result) (sym w.4) c.next_even.ensures) w.5 w.6
 
 pub overflow_add-pass : goal.overflow_add-pass
 overflow_add-pass g c = let w = c.requires.work in let few = few_names g.row.W g.row.F c.args.table.now w.0 c.args.pass.now w.2 in omega (arith, few)

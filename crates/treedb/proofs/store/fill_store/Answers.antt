@@ -1,7 +1,7 @@
 use Rattle.std.proofs.Common.{◌≡◌, ◌*◌, ◌-◌, ◌/◌, ◌≤◌, ℕ, List, length, sym, ap, ◌∙◌, subst, arith, rules, Some}
 use Rattle.std.specs.Prelude.{All, IfSome}
 use Rattle.tdb_base.specs.History.{Vector, name_of}
-use Rattle.tdb_base.specs.Renamed.{place_of, renamed}
+use Rattle.tdb_base.specs.Renamed.{position_of, renamed}
 use Rattle.tdb_base.specs.declared.reply.Reply.{Reply}
 use Rattle.pair_rule.specs.declared.view.View.{View}
 use Rattle.root_plain.specs.declared.root.Roots.{Roots}
@@ -62,7 +62,7 @@ returns-clause-answered g c =
       history = run;
       agrees = agrees_run choice trace replies store first last some about_is flags_are c.requires.view c.requires.whole rested ran.one_history ran.whole ran.nodes ran.full few;
       of_mode = subst (λ (m : Mode). IsOfMode m choice trace replies run c.stats_of-stats.result) (sym c.requires.plain) (in_store_run choice trace replies store first last some about_is flags_are c.requires.view c.requires.whole rested ran.one_history ran.whole ran.nodes ran.full few c.stats_of-stats.result c.stats_of-stats.ensures);
-      vectors = if-printed choice.job c.read_back-vectors.result (IsReadBy (view last).seen (new_ids replies)) (IsReadBack (renamed (place_of ran.one_history.0) (view last).seen))
-          (λ back by. read-renamed (place_of ran.one_history.0) (view last).seen back
+      vectors = if-printed choice.job c.read_back-vectors.result (IsReadBy (view last).seen (new_ids replies)) (IsReadBack (renamed (position_of ran.one_history.0) (view last).seen))
+          (λ back by. read-renamed (position_of ran.one_history.0) (view last).seen back
           (read-back (flag_count choice.profile) trace replies choice.workers choice.block (view last).seen ran.one_history.0 own some back by)) read;
     }

@@ -1,7 +1,7 @@
 use Rattle.std.proofs.Common.{◌≡◌, ◌≢◌, ◌+◌, ◌-◌, ◌%◌, ◌∙◌, ℕ, ap, arith, get_or, length, rules, subst, sym}
 use Rattle.std.proofs.lemmas.Bool.{both_ways}
 use Rattle.std.proofs.lemmas.List.{get_or_read}
-use Rattle.run_check.specs.Table.{hash_of, probe}
+use Rattle.run_check.specs.Table.{key_hash, probe}
 use Rattle.run_check.proofs.TableLemmas.{Seeks, none-at-full, place-free, place-line, seeks-more, seeks-none}
 use Rattle.run_check.proofs.table.LineTable.find.Goals as goal
 
@@ -11,7 +11,7 @@ loop-step-init c = seeks-none c.args.trace.now c.args.replies.now c.args.key c.a
 pub returns-then-entry-eq0 : goal.returns-then-entry-eq0
 returns-then-entry-eq0 c =
     let size : c.len-size.result ≡ length c.args.self.now = search rules in
-    let at : (c.hash.result % c.len-size.result + c.loop-step.step) % c.len-size.result ≡ probe (length c.args.self.now) (hash_of c.args.key) c.loop-step.step =
+    let at : (c.hash.result % c.len-size.result + c.loop-step.step) % c.len-size.result ≡ probe (length c.args.self.now) (key_hash c.args.key) c.loop-step.step =
     ap (λ n. (c.hash.result % n + c.loop-step.step) % n) size ∙ ap (λ h. probe (length c.args.self.now) h c.loop-step.step) c.hash.ensures in
     let value : c.index-entry.result.now ≡ get_or c.args.self.now ((c.hash.result % c.len-size.result + c.loop-step.step) % c.len-size.result) 0 = search (rules, get_or_read) in
     place-free c.args.trace.now c.args.replies.now c.args.key c.args.self.now c.loop-step.step _ c.index-entry.result.now c.loop-step.invariant at value c.if-entry-eq0.true (omega arith)
@@ -27,7 +27,7 @@ is_of-requires-clause-within c =
 pub returns-then-is_of : goal.returns-then-is_of
 returns-then-is_of c =
     let size : c.len-size.result ≡ length c.args.self.now = search rules in
-    let at : (c.hash.result % c.len-size.result + c.loop-step.step) % c.len-size.result ≡ probe (length c.args.self.now) (hash_of c.args.key) c.loop-step.step =
+    let at : (c.hash.result % c.len-size.result + c.loop-step.step) % c.len-size.result ≡ probe (length c.args.self.now) (key_hash c.args.key) c.loop-step.step =
     ap (λ n. (c.hash.result % n + c.loop-step.step) % n) size ∙ ap (λ h. probe (length c.args.self.now) h c.loop-step.step) c.hash.ensures in
     let value : c.from-line.result ≡ get_or c.args.self.now ((c.hash.result % c.len-size.result + c.loop-step.step) % c.len-size.result) 0 =
     let entry : c.index-entry.result.now ≡ get_or c.args.self.now ((c.hash.result % c.len-size.result + c.loop-step.step) % c.len-size.result) 0 = search (rules, get_or_read) in c.from-line.ensures ∙ entry in
@@ -41,7 +41,7 @@ returns-then-is_of c =
 pub loop-step-preserved : goal.loop-step-preserved
 loop-step-preserved c =
     let size : c.len-size.result ≡ length c.args.self.now = search rules in
-    let at : (c.hash.result % c.len-size.result + c.loop-step.step) % c.len-size.result ≡ probe (length c.args.self.now) (hash_of c.args.key) c.loop-step.step =
+    let at : (c.hash.result % c.len-size.result + c.loop-step.step) % c.len-size.result ≡ probe (length c.args.self.now) (key_hash c.args.key) c.loop-step.step =
     ap (λ n. (c.hash.result % n + c.loop-step.step) % n) size ∙ ap (λ h. probe (length c.args.self.now) h c.loop-step.step) c.hash.ensures in
     let value : c.from-line.result ≡ get_or c.args.self.now ((c.hash.result % c.len-size.result + c.loop-step.step) % c.len-size.result) 0 =
     let entry : c.index-entry.result.now ≡ get_or c.args.self.now ((c.hash.result % c.len-size.result + c.loop-step.step) % c.len-size.result) 0 = search (rules, get_or_read) in c.from-line.ensures ∙ entry in
