@@ -11,6 +11,8 @@ use crate::witness::Witness;
 /// new.
 #[derive(Drop)]
 pub struct Opening<V> {
+    /// What the table is about.
     pub about: About,
+    /// The view that the first pass begins with.
     pub first: Witness<V>,
 }

@@ -13,6 +13,7 @@ use tdb_base::NoMemory;
 /// The call that makes a pass takes its buffers, and no later call grows them. The fields are for the layers
 /// of the store alone.
 pub struct PassOf<T> {
+    /// The seat at the table, behind which the view stands.
     pub seat: Seat<(), View<T>>,
     /// The values of the last tree by position, where it has one: twice as many as a vector has slots.
     pub last_tree: Vec<u32>,
@@ -20,6 +21,7 @@ pub struct PassOf<T> {
     pub next_tree: Vec<u32>,
     /// A mark for each position of a pair.
     pub marks: Vec<bool>,
+    /// Whether there is a last tree.
     pub has_last: bool,
     /// How many nodes were put by this pass and by those that were joined into it.
     pub nodes_count: u64,

@@ -16,6 +16,7 @@ pub struct Sizes {
 /// What a table is about. It is fixed when the table is made.
 #[derive(Clone, Copy, Debug, PartialEq, Eq)]
 pub struct About {
+    /// How large the tables are, and how far a path goes.
     pub sizes: Sizes,
     /// The number of slots of a vector: 2 to 1024.
     pub slots: usize,

@@ -7,7 +7,9 @@ use tdb_base::Entry;
 
 /// What one of two views knew that were joined.
 pub struct Old {
+    /// The front of the table's history that it had seen.
     pub seen: LinkedList<Entry>,
+    /// Its number, and those of the passes that had been joined into it.
     pub numbers: LinkedList<u64>,
 }
 
@@ -19,6 +21,7 @@ pub struct View<T> {
     pub busy: bool,
     /// Whether a probe of nodes has begun that has put no pair yet.
     pub probing: bool,
+    /// What the table is about.
     pub about: About,
     /// The caller that it steps as.
     pub number: u64,
@@ -38,5 +41,6 @@ pub struct View<T> {
     pub probes: u64,
     /// After two views were joined, and until the load that follows: what both had seen.
     pub olds: LinkedList<Old>,
+    /// What it knows of the root table.
     pub root: T,
 }

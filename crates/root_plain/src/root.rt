@@ -6,6 +6,7 @@ use std::collections::LinkedList;
 /// What a pass knows of a plain root table: identifiers, each with the root's pair as one number. No value is
 /// made: it is what contracts see behind a seat.
 pub struct Roots {
+    /// Each an identifier, and the root's pair as one number.
     pub roots: LinkedList<(u64, u64)>,
 }
 

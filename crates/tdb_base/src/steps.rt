@@ -28,6 +28,7 @@ impl Ledger for Silent {
 /// Keeps a count, and shows it.
 #[derive(Clone, Copy, Debug, PartialEq, Eq)]
 pub struct Kept {
+    /// The count. It stands still at 2^64 - 1.
     pub shown: u64,
 }
 

@@ -35,6 +35,7 @@ impl Model for Page {
 }
 
 impl Page {
+    /// A page with nothing on it.
     pub fn new() -> Page
         ensures { result ≡ [] }
     {
@@ -44,24 +45,28 @@ impl Page {
         }
     }
 
+    /// The bytes that were added since it was cleared.
     pub fn as_slice(&self) -> &[u8]
         ensures { result.now ≡ self.now }
     {
         &self.bytes[..self.len]
     }
 
+    /// Whether there is room for a line of a report, with 256 bytes.
     pub fn has_room(&self) -> bool
         ensures { IsTrue result ↔ HasRoom self.now 256 }
     {
         self.len <= SIZE - ROOM
     }
 
+    /// Takes all bytes off.
     pub fn clear(&mut self)
         ensures { self.new ≡ [] }
     {
         self.len = 0;
     }
 
+    /// Adds bytes for which there is room.
     pub fn add(&mut self, piece: &[u8])
         requires { HasRoom self.old (length piece.now) }
         ensures { self.new ≡ self.old ++ piece.now }
