@@ -1,13 +1,14 @@
 #!/usr/bin/env bash
 # bench/pages.sh: `treedb insert` with pages of 2 MiB (GLIBC_TUNABLES, as the launcher sets it) and with pages of 4 KiB, beside the twin with both, on traces
-# M, R and P by one worker and by four. The programs take turns. RUNS (5) runs of ROUNDS (12) turns, the best of each run; what is written are the geometric
+# M, R and P (or TRACES) by one worker and by four. The programs take turns. RUNS (5) runs of ROUNDS (12) turns, the best of each run; what is written are the geometric
 # means over the runs. PIECES=MIB takes so much memory before, and frees every other 64 KiB of it (fragment.cpp). Needs ../shared/yardstick.
 source "$(dirname "${BASH_SOURCE[0]}")/setup.sh"
 runs=${RUNS:-5}
 rounds=${ROUNDS:-12}
+traces=${TRACES:-M R P}
 
 make -s -C "$yard" OUT="$out" treeyard tracegen bestof
-"$yard/traces.sh" "$out" M R P > /dev/null
+"$yard/traces.sh" "$out" $traces > /dev/null
 ./treedb bench --lines 1 > /dev/null
 program=$PWD/crates/treedb/out/treedb
 log=$(mktemp)
@@ -25,7 +26,7 @@ try() {
 for ((run = 1; run <= runs; run++)); do
   for ((i = 0; i < rounds; i++)); do
     for workers in 1 4; do
-      for trace in M R P; do
+      for trace in $traces; do
         try "$run" small "$trace" "$workers" "$program" insert
         GLIBC_TUNABLES=glibc.malloc.hugetlb=1 try "$run" large "$trace" "$workers" "$program" insert
         try "$run" twin "$trace" "$workers" "$out/treeyard" insert --no-huge
@@ -36,12 +37,12 @@ for ((run = 1; run <= runs; run++)); do
 done
 
 echo "$(date -u '+%Y-%m-%d %H:%M') UTC, $(nproc) cores, load $(cut -d' ' -f1-3 /proc/loadavg), $runs runs of $rounds rounds, ${PIECES:-0} MiB in pieces"
-awk '{ k = $1 " " $2 " " $3 " " $4; if (!(k in low) || $5 < low[k]) low[k] = $5; if ($1 > runs) runs = $1; if ($6 > most[$2 $3 $4]) most[$2 $3 $4] = $6 }
+awk -v traces="$traces" '{ k = $1 " " $2 " " $3 " " $4; if (!(k in low) || $5 < low[k]) low[k] = $5; if ($1 > runs) runs = $1; if ($6 > most[$2 $3 $4]) most[$2 $3 $4] = $6 }
   function mean(a, t, w,  r, s) { for (r = 1; r <= runs; r++) s += log(low[r " " a " " t " " w]); return exp(s / runs) }
   END {
     print "| `insert` on | workers | 4 KiB | 2 MiB | 2 MiB / 4 KiB | twin, 4 KiB | twin, 2 MiB | 4 KiB / twin | 2 MiB / twin of 4 KiB | 2 MiB / twin of 2 MiB | memory 4 KiB | 2 MiB |"
     print "|---|---|---|---|---|---|---|---|---|---|---|---|"
-    n = split("M R P", ts, " ")
+    n = split(traces, ts, " ")
     for (i = 1; i <= n; i++) for (w = 1; w <= 4; w += 3) {
       s = mean("small", ts[i], w); l = mean("large", ts[i], w); t = mean("twin", ts[i], w); h = mean("twin-large", ts[i], w)
       printf "| %s | %d | %.3f | %.3f | %.2f | %.3f | %.3f | %.2f | %.2f | %.2f | %.0f | %.0f |\n", ts[i], w, s, l, l / s, t, h, s / t, l / t, l / h, most["small" ts[i] w], most["large" ts[i] w]
