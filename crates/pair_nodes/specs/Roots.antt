@@ -4,14 +4,14 @@ use Rattle.std.specs.Prelude.{option_map, ◌≤◌}
 use Rattle.tdb_base.specs.Fakes.{counted}
 use Rattle.packed_word.specs.Word.{pair_of}
 use Rattle.tree_shape.specs.Tree.{Has, IsPart, RootStands}
-use Rattle.tdb_base.specs.History.{Vector, Act, name_of}
+use Rattle.tdb_base.specs.History.{Vector, Act, Entry, name_of}
 use Rattle.pair_rule.specs.declared.pass.PassOf.{PassOf}
 use Rattle.pair_rule.specs.declared.sizes.About.{About}
 use Rattle.pair_rule.specs.Laws.{IsAbout}
 use Rattle.pair_rule.specs.Part.{Store, Part, root_pairs}
 use Rattle.pair_rule.specs.Rest.{AtRest, view}
 use Rattle.pair_rule.specs.Plays.{Caught}
-use Rattle.pair_rule.specs.Calls.{call, deed, Called, IsNoName, KeepsBuffers}
+use Rattle.pair_rule.specs.Calls.{call, Called, IsNoName, KeepsBuffers}
 
 -- two numbers are the parts of a pair
 abbrev pub AreParts : Store → ℕ × ℕ → Type 0
@@ -20,6 +20,10 @@ AreParts store parts = (parts.0 < 2 ^ store.about.width) × (parts.1 < 2 ^ store
 -- the pair of two parts
 abbrev pub pair_in : Store → ℕ × ℕ → ℕ
 pair_in store parts = pair_of store.about.width parts.0 parts.1
+
+-- a call that did so with the vector
+abbrev pub deed : ℕ → Act → Vector → ℕ → Entry
+deed caller act vector id = record { caller = caller; act = act; vector = vector; id = id }
 
 module _ {T : Type 0} (part : Part T) (store : Store) where
   -- the pair's vector was named by one call, or its name was found

@@ -33,9 +33,6 @@ any_of c (n ∷ ns) h = ⊎_elim
 pub names_by_seen : (ns : List ℕ) (e : Entry) → e.act ≡ Put false → names_of_callers ns (e ∷ []) ≡ 0
 names_by_seen ns e seen = rw seen refl
 
-pub names_by_other : (ns : List ℕ) (e : Entry) → is_fresh e.act ≡ false → names_of_callers ns (e ∷ []) ≡ 0
-names_by_other ns e old = rw old refl
-
 pub names_by_fresh : (ns : List ℕ) (e : Entry) → e.act ≡ Put true → Has e.caller ns → names_of_callers ns (e ∷ []) ≡ 1
 names_by_fresh ns e fresh has = rw (fresh, any_of e.caller ns has) refl
 

@@ -4,7 +4,7 @@ use Rattle.std.specs.Prelude.{if◌then◌else◌}
 use Rattle.std.proofs.lemmas.List.Sums.{fold-append}
 use Rattle.tree_shape.specs.Tree.{Has, RootStands, IsPart}
 use Rattle.tree_shape.proofs.Trees.{stands_more}
-use Rattle.tdb_base.specs.History.{Vector, Put, Entry, History, is_fresh, names, same, name_of, flags_of, flags_after}
+use Rattle.tdb_base.specs.History.{Vector, Put, Entry, History, names, same, name_of, flags_of, flags_after}
 use Rattle.tdb_base.specs.Legal.{IsLegal, Extends}
 use Rattle.tdb_base.proofs.NameLemmas.{name-push, name-kept, same-refl, keeps-names}
 use Rattle.pair_rule.specs.declared.sizes.About.{About}
@@ -41,21 +41,11 @@ fresh_flags h e fresh = flags_push h e e.vector ∙ rw (fresh, same-refl e.vecto
 pub other_flags : (h : History) (e : Entry) (v : Vector) → same e.vector v ≡ false → flags_of (h ++ e ∷ []) v ≡ flags_of h v
 other_flags h e v other = flags_push h e v ∙ rw other refl
 
--- an entry that gives no name changes no name, and leaves its vector's flags as its act says
-pub other_names : (h : History) (e : Entry) → is_fresh e.act ≡ false → (v : Vector) → name_of (h ++ e ∷ []) v ≡ name_of h v
-other_names h e old v = name-push h e v ∙ rw old refl
-
-pub acted_flags : (h : History) (e : Entry) (before after : Option ℕ) → flags_of h e.vector ≡ before → flags_after e.act before ≡ after → flags_of (h ++ e ∷ []) e.vector ≡ after
-acted_flags h e before after was is = flags_push h e e.vector ∙ rw (same-refl e.vector) (ap (flags_after e.act) was ∙ is)
-
-pub named_alike : (about : About) (known : List (ℕ × ℕ)) (h g : History) (roots : List (ℕ × ℕ)) → ((v : Vector) → name_of g v ≡ name_of h v) → Named about known h roots → Named about known g roots
-named_alike about known h g roots same n = record {
-  each = λ v id p. n.each v id (sym (same v) ∙ p);
-  only = λ id pair has. let o = n.only id pair has in (o.0, same o.0 ∙ o.1, o.2, o.3);
-}
-
 pub named_same : (about : About) (known : List (ℕ × ℕ)) (h g : History) (roots : List (ℕ × ℕ)) → SameNames h g → Named about known h roots → Named about known g roots
-named_same about known h g roots s n = named_alike about known h g roots (s.names_are) n
+named_same about known h g roots s n = record {
+  each = λ v id p. n.each v id (sym (s.names_are v) ∙ p);
+  only = λ id pair has. let o = n.only id pair has in (o.0, s.names_are o.0 ∙ o.1, o.2, o.3);
+}
 
 pub root_more : (about : About) (known more : List (ℕ × ℕ)) (pair : ℕ) (v : Vector) → IsPart known more → RootStands about.width about.slots known pair v → RootStands about.width about.slots more pair v
 root_more about known more pair v part s = (stands_more about.width about.slots known more v 2 _ part s.0, stands_more about.width about.slots known more v 3 _ part s.1)

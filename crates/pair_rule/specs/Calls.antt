@@ -1,20 +1,16 @@
 -- What a call on a store's roots leaves of the pass that makes it, whatever its root table is.
 use Rattle.std.specs.Prelude.{◌≡◌, ◌≢◌, ℕ, List, [], ◌∷◌, Bool, Some, length}
 use Rattle.tree_shape.specs.Tree.{Has, RootStands}
-use Rattle.tdb_base.specs.History.{Vector, Act, Put, Entry, History, name_of}
+use Rattle.tdb_base.specs.History.{Vector, Put, Entry, History, name_of}
 use Rattle.pair_rule.specs.declared.view.View.{View}
 use Rattle.pair_rule.specs.declared.sizes.About.{About}
 use Rattle.pair_rule.specs.declared.pass.PassOf.{PassOf}
 use Rattle.pair_rule.specs.Part.{Part, root_pairs}
 use Rattle.pair_rule.specs.Plays.{Caught}
 
--- a call that did so with the vector
-abbrev pub deed : ℕ → Act → Vector → ℕ → Entry
-deed caller act vector id = record { caller = caller; act = act; vector = vector; id = id }
-
 -- a call that found or put the vector
 abbrev pub call : ℕ → Bool → Vector → ℕ → Entry
-call caller fresh vector id = deed caller (Put fresh) vector id
+call caller fresh vector id = record { caller = caller; act = Put fresh; vector = vector; id = id }
 
 -- the identifier is that of no name
 abbrev pub IsNoName : ℕ → History → Type 0

@@ -1,3 +1,4 @@
+pub mod Acted
 pub mod RootSteps
 pub mod RootPlays
 pub mod RootActs

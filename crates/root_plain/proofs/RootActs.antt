@@ -12,14 +12,15 @@ use Rattle.tdb_base.proofs.NameLemmas.{same-equal, same-refl, names-differ, lega
 use Rattle.packed_word.specs.Word.{word_of}
 use Rattle.pair_rule.specs.declared.view.View.{View}
 use Rattle.pair_rule.specs.declared.sizes.About.{About}
-use Rattle.pair_rule.specs.Calls.{deed}
+use Rattle.pair_nodes.specs.Roots.{deed}
 use Rattle.pair_rule.specs.Paths.{root_buckets, size}
 use Rattle.pair_rule.specs.Plays.{Caught}
 use Rattle.pair_rule.specs.Rule.{Filled}
 use Rattle.pair_rule.proofs.Advance.{SameNodes, catches}
 use Rattle.pair_rule.proofs.Buckets.{filled_same}
 use Rattle.pair_rule.proofs.Lists.{has_back}
-use Rattle.pair_rule.proofs.Names.{other_flags, other_names, acted_flags, named_alike}
+use Rattle.pair_rule.proofs.Names.{other_flags}
+use Rattle.root_plain.proofs.Acted.{other_names, acted_flags, named_alike}
 use Rattle.root_plain.specs.declared.root.Roots.{Roots}
 use Rattle.root_plain.specs.Plain.{HoldsRoot, IsRoot, root_at, HasFlags, Plain, plain}
 use Rattle.root_plain.specs.Words.{root_one, root_used}

@@ -15,11 +15,13 @@ use Rattle.pair_rule.specs.Paths.{node_buckets, root_buckets, size, bucket, reac
 use Rattle.pair_rule.specs.Plays.{first_root}
 use Rattle.pair_rule.specs.Rest.{SeatRests, AtRest, names_of_callers, view}
 use Rattle.pair_rule.specs.Rule.{StoreRule}
-use Rattle.pair_rule.proofs.Catches.{names_by_seen, names_by_other, names_by_fresh, rests_caught}
+use Rattle.pair_rule.proofs.Catches.{names_by_seen, names_by_fresh, rests_caught}
+use Rattle.root_plain.proofs.Acted.{names_by_other}
 use Rattle.root_plain.specs.declared.root.Roots.{Roots}
 use Rattle.root_plain.specs.Plain.{IsPlain, IsRoot, Plain}
 use Rattle.pair_rule.specs.Part.{Store}
-use Rattle.pair_rule.specs.Calls.{call, deed, Called}
+use Rattle.pair_nodes.specs.Roots.{deed}
+use Rattle.pair_rule.specs.Calls.{call, Called}
 use Rattle.pair_rule.specs.Plays.{Caught}
 use Rattle.root_plain.specs.Plain.{plain}
 use Rattle.root_plain.specs.Plays.{Shows, Leaves, sought, claimed}

@@ -13,7 +13,7 @@ use Rattle.packed_word.specs.Word.{IsLayout, flag_bits, word_of}
 use Rattle.packed_word.proofs.Numbers.{has_parts, sets_flag_of, clears_flag_of}
 use Rattle.pair_rule.specs.declared.view.View.{View}
 use Rattle.pair_rule.specs.declared.sizes.About.{About}
-use Rattle.pair_rule.specs.Calls.{deed}
+use Rattle.pair_nodes.specs.Roots.{deed}
 use Rattle.pair_rule.specs.Paths.{root_buckets, IsPair}
 use Rattle.pair_rule.specs.Plays.{Caught, first_root}
 use Rattle.pair_rule.specs.Rule.{StoreRule}

@@ -7,7 +7,8 @@ use Rattle.packed_word.specs.Word.{flag_bits}
 use Rattle.tdb_base.specs.History.{Vector, Act, Set, Clear, Look, has_bit, name_of, flags_of}
 use Rattle.pair_rule.specs.declared.view.View.{View}
 use Rattle.pair_rule.specs.Plays.{Caught, first_root}
-use Rattle.pair_rule.specs.Calls.{IsNoName, Called, deed}
+use Rattle.pair_nodes.specs.Roots.{deed}
+use Rattle.pair_rule.specs.Calls.{IsNoName, Called}
 use Rattle.root_plain.specs.declared.root.Roots.{Roots}
 use Rattle.root_plain.specs.declared.plays.Wanted.{Wanted}
 use Rattle.root_plain.specs.declared.plays.Wanted.TheVariants.{Pair, Each, Nothing}

@@ -10,18 +10,17 @@ ghost use Rattle.tdb_base.specs.History.{Vector, Set, Clear, Look, name_of};
 use crate::flag_steps::{clear_in_word, read_word, set_in_word};
 use crate::root::PlainRoot;
 use packed_word::Layout;
-use pair_nodes::Nodes;
+use pair_nodes::{Nodes, has_flag};
 use pair_rule::Pass;
-use tdb_base::plain::has_bit;
 
 // Whether flag `b` of a word is set.
 #[inline]
-fn has_flag<const W: u32, const F: u32>(word: u64, b: u32) -> bool
+fn is_set<const W: u32, const F: u32>(word: u64, b: u32) -> bool
     requires layout { IsLayout W F }
     requires bit { b < F }
     ensures { result ≡ flag_in W F word b }
 {
-    has_bit(Layout::<W, F>::flags(word), b)
+    has_flag(Layout::<W, F>::flags(word), b)
 }
 
 /// Sets flag `b` of the vector with this identifier, which is one that the pass has seen named: whether it
@@ -39,7 +38,7 @@ pub fn set_flag<const W: u32, const F: u32>(
     ensures { RootActed plain nodes.now (Set b result) id pass.old pass.new }
 {
     let word = set_in_word(nodes.table(), pass, id, b);
-    !has_flag::<W, F>(word, b)
+    !is_set::<W, F>(word, b)
 }
 
 /// Clears flag `b` of the vector with this identifier, which is one that the pass has seen named: whether it
@@ -56,7 +55,7 @@ pub fn clear_flag<const W: u32, const F: u32>(
     ensures { RootActed plain nodes.now (Clear b result) id pass.old pass.new }
 {
     let word = clear_in_word(nodes.table(), pass, id, b);
-    has_flag::<W, F>(word, b)
+    is_set::<W, F>(word, b)
 }
 
 /// The flags of the vector with this identifier, which is one that the pass has seen named, as one number. It

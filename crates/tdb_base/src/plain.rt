@@ -246,9 +246,8 @@ fn flags_after(act: Act, flags: Option<u64>) -> Option<u64>
     }
 }
 
-/// Whether the bit of a number is set.
-#[inline]
-pub fn has_bit(number: u64, bit: u32) -> bool
+// Whether the bit of a number is set.
+fn has_bit(number: u64, bit: u32) -> bool
     requires { bit < 64 }
     ensures { result ≡ h.has_bit number bit }
 {

@@ -12,7 +12,7 @@ use tdb_base::{Silent, Steps};
 
 // What is done to flags.
 #[derive(Clone, Copy)]
-enum Turn {
+enum Doing {
     Set(u32),
     Clear(u32),
     Read,
@@ -20,7 +20,7 @@ enum Turn {
 
 // The root `(0, right)` is put, and this is done to its flags: 1 where a flag changed, and 0 where it was so
 // before, or the flags that are read. `None` if the root has no place.
-fn turn(store: &Store, pass: &mut StorePass, right: u64, act: Turn) -> Option<u64>
+fn turn(store: &Store, pass: &mut StorePass, right: u64, act: Doing) -> Option<u64>
     requires width { store.now.about.width ≡ 16 }
     requires flags { store.now.about.flags ≡ 8 }
     requires slots { store.now.about.slots ≡ 2 }
@@ -31,30 +31,30 @@ fn turn(store: &Store, pass: &mut StorePass, right: u64, act: Turn) -> Option<u6
     let mut steps = Steps::new(Silent);
     let (id, _) = put(store, pass, 0, right, &mut steps)?;
     match act {
-        Turn::Set(b) => Some(u64::from(set_flag(store, pass, id, b % 8))),
-        Turn::Clear(b) => Some(u64::from(clear_flag(store, pass, id, b % 8))),
-        Turn::Read => Some(flags(store, pass, id)),
+        Doing::Set(b) => Some(u64::from(set_flag(store, pass, id, b % 8))),
+        Doing::Clear(b) => Some(u64::from(clear_flag(store, pass, id, b % 8))),
+        Doing::Read => Some(flags(store, pass, id)),
     }
 }
 
 // What is done to the flags of which root, in turn, and what that answers.
-static TURNS: [(u64, Turn, u64); 16] = [
-    (5, Turn::Read, 0),
-    (5, Turn::Set(6), 1),
-    (5, Turn::Set(6), 0),
-    (5, Turn::Read, 64),
-    (3, Turn::Read, 0),
-    (3, Turn::Set(7), 1),
-    (5, Turn::Set(0), 1),
-    (5, Turn::Read, 65),
-    (5, Turn::Clear(6), 1),
-    (5, Turn::Clear(6), 0),
-    (5, Turn::Clear(7), 0),
-    (5, Turn::Read, 1),
-    (3, Turn::Read, 128),
-    (5, Turn::Clear(0), 1),
-    (5, Turn::Read, 0),
-    (3, Turn::Read, 128),
+static TURNS: [(u64, Doing, u64); 16] = [
+    (5, Doing::Read, 0),
+    (5, Doing::Set(6), 1),
+    (5, Doing::Set(6), 0),
+    (5, Doing::Read, 64),
+    (3, Doing::Read, 0),
+    (3, Doing::Set(7), 1),
+    (5, Doing::Set(0), 1),
+    (5, Doing::Read, 65),
+    (5, Doing::Clear(6), 1),
+    (5, Doing::Clear(6), 0),
+    (5, Doing::Clear(7), 0),
+    (5, Doing::Read, 1),
+    (3, Doing::Read, 128),
+    (5, Doing::Clear(0), 1),
+    (5, Doing::Read, 0),
+    (3, Doing::Read, 128),
 ];
 
 #[test]

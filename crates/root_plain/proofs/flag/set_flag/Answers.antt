@@ -13,5 +13,5 @@ set_in_word-word-requires g c = (omega arith, (omega arith, rw c.table.ensures.t
 pub returns : goal.returns
 returns g c =
     let rest = subst (λ t. AtRest plain t c.set_in_word-word.new.pass) c.table.ensures.table c.set_in_word-word.ensures.rest in
-    let told = subst (λ (x : Bool). DoesTo (Set c.args.b (not x)) c.args.id (view c.args.pass.now) (view c.set_in_word-word.new.pass)) (sym c.has_flag.ensures) c.set_in_word-word.ensures.told in
+    let told = subst (λ (x : Bool). DoesTo (Set c.args.b (not x)) c.args.id (view c.args.pass.now) (view c.set_in_word-word.new.pass)) (sym c.is_set.ensures) c.set_in_word-word.ensures.told in
     acted c.args.nodes.now c.args.pass.now c.set_in_word-word.new.pass _ c.args.id c.requires.named.0 c.requires.named.1 rest told c.set_in_word-word.ensures.tree
