@@ -1,10 +1,10 @@
 -- What the calls on a store's roots leave of a pass, whatever its root table is.
-use Rattle.std.specs.Prelude.{◌≡◌, ℕ, ◌^◌, ◌<◌, [], ◌∷◌, Bool, true, false, Option, None, length, ◌⊎◌}
+use Rattle.std.specs.Prelude.{◌≡◌, ℕ, ◌^◌, ◌<◌, [], ◌∷◌, Bool, true, false, Option, Some, None, length, ◌⊎◌}
 use Rattle.std.specs.Prelude.{option_map, ◌≤◌}
 use Rattle.tdb_base.specs.Fakes.{counted}
 use Rattle.packed_word.specs.Word.{pair_of}
 use Rattle.tree_shape.specs.Tree.{Has, IsPart, RootStands}
-use Rattle.tdb_base.specs.History.{Vector, name_of}
+use Rattle.tdb_base.specs.History.{Vector, Act, Entry, name_of}
 use Rattle.pair_rule.specs.declared.pass.PassOf.{PassOf}
 use Rattle.pair_rule.specs.declared.sizes.About.{About}
 use Rattle.pair_rule.specs.Laws.{IsAbout}
@@ -20,6 +20,10 @@ AreParts store parts = (parts.0 < 2 ^ store.about.width) × (parts.1 < 2 ^ store
 -- the pair of two parts
 abbrev pub pair_in : Store → ℕ × ℕ → ℕ
 pair_in store parts = pair_of store.about.width parts.0 parts.1
+
+-- a call that did so with the vector
+abbrev pub deed : ℕ → Act → Vector → ℕ → Entry
+deed caller act vector id = record { caller = caller; act = act; vector = vector; id = id }
 
 module _ {T : Type 0} (part : Part T) (store : Store) where
   -- the pair's vector was named by one call, or its name was found
@@ -57,6 +61,14 @@ module _ {T : Type 0} (part : Part T) (store : Store) where
     pub rest : AtRest part store new
     pub no_call : Caught part [] (view old) (view new)
     pub no_name : IsNoName id (view new).seen
+    pub buffers : new ≡ record old { seat = new.seat }
+
+  -- one call did so with the vector that has this identifier, whose name the pass had seen
+  pub record RootActed (act : Act) (id : ℕ) (old new : PassOf T) : Type 0 where
+    pub rest : AtRest part store new
+    pub entry : (vector : Vector) → name_of (view old).seen vector ≡ Some id
+        → Caught part (deed (view old).number act vector id ∷ []) (view old) (view new)
+    pub call : part.after_call (view old).root (view new).root
     pub buffers : new ≡ record old { seat = new.seat }
 
   -- the root of the identifier has these parts, and no call was made

@@ -2,11 +2,13 @@
 //! Pol and Weber 2010).
 #![tactic(auto)]
 
+mod flag;
 mod nodes;
 mod probe;
 mod roots;
 mod steps;
 
+pub use flag::has_flag;
 pub use nodes::Nodes;
 pub use roots::{RootNames, RootTable, look_or_put};
 

@@ -1,5 +1,10 @@
+pub mod Acted
 pub mod RootSteps
 pub mod RootPlays
+pub mod RootActs
+pub mod FlagBits
+pub mod RootTurns
+pub mod FlagPasses
 pub mod RootPasses
 pub mod Probing
 pub mod PassLaws

@@ -1,8 +1,8 @@
 -- Walks along a root pair's path: what one look after another tells.
-use Rattle.std.proofs.Common.{◌≡◌, ◌≢◌, ◌⊎◌, ℕ, ◌+◌, ◌*◌, ◌/◌, ◌%◌, ◌^◌, ◌<◌, ◌≤◌, [], Bool, false, refl, sym, ap, ◌∙◌, subst, ⊎_elim, eq-eqb, ne_eqb, arith, append-nil, Some}
+use Rattle.std.proofs.Common.{◌≡◌, ◌≢◌, ◌⊎◌, ℕ, ◌+◌, ◌-◌, ◌*◌, ◌/◌, ◌%◌, ◌^◌, ◌<◌, ◌≤◌, [], Bool, false, refl, sym, ap, ◌∙◌, subst, ⊎_elim, eq-eqb, ne_eqb, arith, append-nil, Some}
 use mathlib.Core.Logic.{dite}
 use native.Mathlib.Decide.{ℕ_discrete}
-use Rattle.std.proofs.lemmas.Nat.{shr_split}
+use Rattle.std.proofs.lemmas.Nat.{shr_split, pow_pos}
 use Rattle.tree_shape.specs.Tree.{Has}
 use Rattle.tdb_base.specs.History.{Vector, History, name_of}
 use Rattle.tdb_base.specs.Legal.{Extends}
@@ -10,7 +10,7 @@ use Rattle.tdb_base.proofs.NameLemmas.{keeps-names}
 use Rattle.packed_word.specs.Word.{IsPresent, left_of, right_of, pair_of, word_of}
 use Rattle.packed_word.proofs.Numbers.{has_parts}
 use Rattle.pair_rule.specs.declared.view.View.{View}
-use Rattle.probe_path.specs.Path.{Course, bucket_at, walked_lines, path_length}
+use Rattle.probe_path.specs.Path.{Course, Progress, bucket_at, walked_lines, path_length}
 use Rattle.pair_rule.specs.declared.sizes.Sizes.{Sizes}
 use Rattle.pair_rule.specs.declared.sizes.About.{About}
 use Rattle.pair_rule.specs.declared.pass.PassOf.{PassOf}
@@ -162,3 +162,37 @@ module _ (store : Store) (p q : PassOf Roots) (width id n : ℕ) (u : Vector) (r
       let read = pair_read store.about width n (subst IsPlain rp.seat.about_is rp.seat.sound.root_sound.is_about) wide t.0 (subst (λ (y : About). IsRoot y n t.0) rp.seat.about_is t.1) in
       (k, subst (λ (x : ℕ). Has (id, x) (view p).root.roots) (same ∙ sym read) had.1))
       s.word
+
+-- a walk on from a view that has caught up
+pub passes_caught : (about : About) (pair count : ℕ) (u v w : V) → Caught plain [] u v → Passes about pair count v w → Passes about pair count u w
+passes_caught about pair count u v w k p = record { caught = caught_again [] u v w k p.caught; passed = p.passed }
+
+-- the first bucket of a pair's path, at which a walk begins
+pub record IsFirst (about : About) (pair at : ℕ) (path : Course) (walk : Progress) : Type 0 where
+  pub whole : Along about pair path
+  pub along : Along about pair walk.course
+  pub some_line : 0 < path.lines
+  pub near : 0 < reach (root_buckets about)
+  pub lies : bucket (root_buckets about) pair 0 ≡ at
+
+some_lines : (d probe : ℕ) → 1 ≤ probe → 0 < walked_lines d probe
+some_lines d probe least = let some = pow_pos (d - 3) in omega (arith, least, some)
+
+pub first_of : (about : About) (width pair : ℕ) (sizes : Sizes) (path : Course) (walk : Progress) (at : ℕ) → about.width ≡ width → sizes ≡ about.sizes → 1 ≤ about.sizes.probe
+    → path ≡ record { pair = pair; d = sizes.roots; lines = walked_lines sizes.roots sizes.probe } → walk ≡ record { course = path; passed = 0 }
+    → at ≡ bucket_at width walk.course.d walk.course.pair (8 * walk.passed + 0) → IsFirst about pair at path walk
+first_of about width pair sizes path walk at wide same least path_is walk_is is =
+    let course = along_path about sizes pair same in
+    let there : Along about pair path = subst (λ (c : Course). Along about pair c) (sym path_is) course in
+    let here : Along about pair walk.course = subst (λ (c : Course). Along about pair c) (sym (ap (λ (w : Progress). w.course) walk_is)) there in
+    let none : walk.passed ≡ 0 = ap (λ (w : Progress). w.passed) walk_is in
+    let enough : 1 ≤ sizes.probe = subst (λ (s : Sizes). 1 ≤ s.probe) (sym same) least in
+    let lines : 0 < path.lines = subst (λ (c : Course). 0 < c.lines) (sym path_is) (some_lines sizes.roots sizes.probe enough) in
+    let all = there.all in
+    record {
+      whole = there;
+      along = here;
+      some_line = lines;
+      near = omega (arith, all, lines);
+      lies = bucket_is about width pair 0 at walk.course wide here (subst (λ (n : ℕ). at ≡ bucket_at width walk.course.d walk.course.pair n) (omega (arith, none)) is);
+    }

@@ -6,7 +6,7 @@ use prog.Atomic.{either}
 use Rattle.atomic_table.specs.Table.{step, Allows}
 use Rattle.atomic_table.specs.declared.shared.Seat.{Seat}
 use Rattle.tree_shape.specs.Tree.{RootStands}
-use Rattle.tdb_base.specs.History.{Vector, History}
+use Rattle.tdb_base.specs.History.{Vector, Act, History, is_fresh}
 use Rattle.pair_rule.specs.declared.view.View.{View}
 use Rattle.pair_rule.specs.declared.sizes.Sizes.{Sizes}
 use Rattle.pair_rule.specs.declared.sizes.About.{About}
@@ -16,9 +16,11 @@ use Rattle.pair_rule.specs.Plays.{first_root}
 use Rattle.pair_rule.specs.Rest.{SeatRests, AtRest, names_of_callers, view}
 use Rattle.pair_rule.specs.Rule.{StoreRule}
 use Rattle.pair_rule.proofs.Catches.{names_by_seen, names_by_fresh, rests_caught}
+use Rattle.root_plain.proofs.Acted.{names_by_other}
 use Rattle.root_plain.specs.declared.root.Roots.{Roots}
 use Rattle.root_plain.specs.Plain.{IsPlain, IsRoot, Plain}
 use Rattle.pair_rule.specs.Part.{Store}
+use Rattle.pair_nodes.specs.Roots.{deed}
 use Rattle.pair_rule.specs.Calls.{call, Called}
 use Rattle.pair_rule.specs.Plays.{Caught}
 use Rattle.root_plain.specs.Plain.{plain}
@@ -108,3 +110,11 @@ claim_allowed store key p slots at word pair i new vector r same here inside pac
 
 pub few_names : (store : Store) (p : PassOf Roots) → AtRest plain store p → p.names_count ≤ 4611686018427387904
 few_names store p r = few_names_given plain store plain_ids_below p r
+
+-- a pass that made a call on a named vector which gives no name
+pub acted_rests : (store : Store) (p q : PassOf Roots) (act : Act) (id : ℕ) (u : Vector) → AtRest plain store p → q.seat.table_id ≡ p.seat.table_id → Leaves p.seat.me q.seat.me → is_fresh act ≡ false
+    → Caught plain (deed (view p).number act u id ∷ []) (view p) (view q)
+    → q.last_tree ≡ p.last_tree → q.next_tree ≡ p.next_tree → q.marks ≡ p.marks → q.has_last ≡ p.has_last → q.nodes_count ≡ p.nodes_count → q.names_count ≡ p.names_count → AtRest plain store q
+acted_rests store p q act id u r same l old k last next marks tree nodes names =
+    let made = deed (view p).number act u id in
+    rests_caught plain store p q (made ∷ []) r (seat_caught store p.seat q.seat (made ∷ []) r.seat same l k) k last next marks tree nodes (let none = names_by_other (view p).numbers made old in omega (arith, names, none))

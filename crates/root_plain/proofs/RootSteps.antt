@@ -36,7 +36,7 @@ abbrev V : Type 0
 V = View Roots
 
 -- the root words after a step after which no word has lost its pair, and one view has a root part whose pairs are in the words
-plain_after : (about : About) (log g : History) (ws ws' : List ℕ) (views : List V) (id : ℕ) (w : V) → Plain about log ws views → Filled (root_buckets about) (IsRoot about) (root_at ws')
+pub plain_after : (about : About) (log g : History) (ws ws' : List ℕ) (views : List V) (id : ℕ) (w : V) → Plain about log ws views → Filled (root_buckets about) (IsRoot about) (root_at ws')
     → ((k : ℕ) → k < size (root_buckets about) → root_at ws' k ≢ 0 → (u : Vector) × (name_of g u ≡ Some k))
     → ((u : Vector) (k : ℕ) → name_of g u ≡ Some k → (k < size (root_buckets about)) × HasFlags about g u (root_at ws' k))
     → ((k x : ℕ) → IsRoot about (root_at ws k) x → IsRoot about (root_at ws' k) x)
@@ -72,17 +72,17 @@ module _ (S : Type 0) (about : About) where
 
   module _ (s : State S V) (r : Rule s) (id : ℕ) (v : V) (e : get_elem? s.views id ≡ some v) (live : v.live ≡ true) where
     -- the view that has seen all
-    abbrev h : V
+    abbrev pub h : V
     h = r.holder.1
 
-    abbrev both : Roots
+    abbrev pub both : Roots
     both = both_roots h.root v.root
 
-    abbrev caught : History → V
+    abbrev pub caught : History → V
     caught more = catch v h (r.log ++ more) v.busy both
 
     -- who has a name, and with which root pair
-    record IsName (u : Vector) (i : ℕ) : Type 0 where
+    pub record IsName (u : Vector) (i : ℕ) : Type 0 where
       pub pair : ℕ
       pub flags : ℕ
       pub inside : i < size (root_buckets about)
@@ -95,7 +95,7 @@ module _ (S : Type 0) (about : About) where
     holder_named : Named about h.known r.log h.root.roots
     holder_named = subst (λ (g : History). Named about h.known g h.root.roots) r.holder.3 (r.each r.holder.0 h r.holder.2).named
 
-    name_is : (u : Vector) (i : ℕ) → name_of r.log u ≡ Some i → IsName u i
+    pub name_is : (u : Vector) (i : ℕ) → name_of r.log u ≡ Some i → IsName u i
     name_is u i n =
         let k = r.rooted.names u i n in
         let known = holder_named.each u i n in
@@ -114,10 +114,10 @@ module _ (S : Type 0) (about : About) where
           long = ap length (sym same_vector) ∙ o.3;
         }
 
-    both_named : Named about (h.known ++ v.known) r.log both.roots
+    pub both_named : Named about (h.known ++ v.known) r.log both.roots
     both_named = let f = r.each id v e in named_caught about h.known v.known r.log v.seen h.root.roots v.root.roots r.legal f.seen holder_named f.named
 
-    both_there : (k x : ℕ) → Has (k, x) both.roots → (k < size (root_buckets about)) × IsRoot about (root_at (behind s.words) k) x
+    pub both_there : (k x : ℕ) → Has (k, x) both.roots → (k < size (root_buckets about)) × IsRoot about (root_at (behind s.words) k) x
     both_there k x a = ⊎_elim (λ (b : Has (k, x) h.root.roots). r.rooted.roots r.holder.0 h r.holder.2 k x b) (λ (b : Has (k, x) v.root.roots). r.rooted.roots id v e k x b) (has_either (k, x) h.root.roots v.root.roots a)
 
     -- a load of a root bucket, after which the view has caught up and made calls that change no name and no flag

@@ -6,6 +6,8 @@
 #![tactic(auto)]
 
 mod find;
+mod flag;
+mod flag_steps;
 pub mod laws;
 mod plays;
 mod put;
@@ -14,6 +16,7 @@ mod steps;
 mod table;
 
 pub use find::{find_id, root_pair};
+pub use flag::{clear_flag, flags, set_flag};
 pub use put::put_root;
 pub use root::{PlainRoot, Roots};
 pub use table::PlainTable;

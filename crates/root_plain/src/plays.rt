@@ -2,7 +2,7 @@
 ghost use Rattle.std.specs.Prelude.{◌≡◌, ℕ, ◌<◌, Bool, false};
 ghost use mathlib.Core.Option.{none};
 ghost use Rattle.atomic_table.specs.Table.{Allows, step};
-ghost use Rattle.root_plain.specs.Plays.{sought, claimed};
+ghost use Rattle.root_plain.specs.Plays.{sought, claimed, flag_set, flag_cleared, flags_read};
 
 use crate::root::Roots;
 use atomic_table::{Play, Seat, Shared, TableRule};
@@ -43,4 +43,25 @@ pub(crate) struct Claiming;
 
 impl Play<(), View<Roots>> for Claiming {
     ghost then = { claimed };
+}
+
+// A fetch and or with a flag's mask on a named root's word.
+pub(crate) struct SettingFlag;
+
+impl Play<(), View<Roots>> for SettingFlag {
+    ghost then = { flag_set };
+}
+
+// A fetch and and with the mask of all other bits.
+pub(crate) struct ClearingFlag;
+
+impl Play<(), View<Roots>> for ClearingFlag {
+    ghost then = { flag_cleared };
+}
+
+// A load that reads the flags there.
+pub(crate) struct ReadingFlags;
+
+impl Play<(), View<Roots>> for ReadingFlags {
+    ghost then = { flags_read };
 }

@@ -1,5 +1,5 @@
 //! A root is put, or found, along its pair's path.
-ghost use Rattle.std.specs.Prelude.{◌≡◌, ◌≢◌, ℕ, ◌+◌, ◌*◌, ◌^◌, ◌<◌, [], true};
+ghost use Rattle.std.specs.Prelude.{◌≡◌, ◌≢◌, ℕ, ◌+◌, ◌*◌, ◌^◌, ◌<◌, ◌≤◌, [], true};
 ghost use Rattle.std.specs.Prelude.{IfOk, OnErr, IfSome, IfNone, MatchOption, option_map};
 ghost use Rattle.packed_word.specs.Word.{pair_of};
 ghost use Rattle.tdb_base.specs.Fakes.{counted};
@@ -92,12 +92,13 @@ fn visit<const W: u32, const F: u32>(
     }
 }
 
-// Visits the buckets of one line of the path of the word's pair.
+// Visits the buckets of one line of the path of the word's pair, from its bucket `from` on.
 #[inline]
 fn walk_line<const W: u32, const F: u32>(
     table: &PairTable<PlainRoot<W, F>, W, F>,
     pass: &mut Pass<PlainRoot<W, F>, W, F>,
     walk: &Walk<W>,
+    from: u64,
     word: u64,
 ) -> Option<(u64, bool)>
     requires store { IsTable W F plain table.now }
@@ -105,9 +106,10 @@ fn walk_line<const W: u32, const F: u32>(
     requires word { IsNodeWord table.now.about word }
     requires walk { Along table.now.about (pair_of_word word) walk.now.course }
     requires line { walk.now.passed < walk.now.course.lines }
+    requires from { from ≤ 8 }
     requires passed { Passed (root_buckets table.now.about) (Listed (view pass.old).root.roots)
         (pair_of_word word)
-        (8 * walk.now.passed) }
+        (8 * walk.now.passed + from) }
     requires stands { IsSomeRoot table.now.about (view pass.old).known (pair_of_word word) }
     ensures rest { AtRest plain table.now pass.new }
     ensures outcome { MatchOption result
@@ -115,7 +117,7 @@ fn walk_line<const W: u32, const F: u32>(
         (λ a. Called plain a.1 a.0 (pair_of_word word) (view pass.old) (view pass.new)) }
     ensures buffers { KeepsBuffers pass.old pass.new }
 {
-    for i in 0..8 {
+    for i in from..8 {
         if let Some(found) = visit(table, pass, walk.bucket(i), word) {
             return Some(found);
         }
@@ -123,7 +125,40 @@ fn walk_line<const W: u32, const F: u32>(
     None
 }
 
-// Visits the buckets of the path of the word's pair, line by line.
+// Visits the buckets of the path of the word's pair but the first one, line by line.
+fn walk_on<const W: u32, const F: u32>(
+    table: &PairTable<PlainRoot<W, F>, W, F>,
+    pass: &mut Pass<PlainRoot<W, F>, W, F>,
+    path: &Path<W>,
+    word: u64,
+) -> Option<(u64, bool)>
+    requires store { IsTable W F plain table.now }
+    requires rest { AtRest plain table.now pass.old }
+    requires word { IsNodeWord table.now.about word }
+    requires path { Along table.now.about (pair_of_word word) path.now }
+    requires lines { 0 < path.now.lines }
+    requires passed { Passed (root_buckets table.now.about) (Listed (view pass.old).root.roots)
+        (pair_of_word word) 1 }
+    requires stands { IsSomeRoot table.now.about (view pass.old).known (pair_of_word word) }
+    ensures rest { AtRest plain table.now pass.new }
+    ensures outcome { MatchOption result
+        (Passes table.now.about (pair_of_word word) (reach (root_buckets table.now.about)) (view pass.old) (view pass.new))
+        (λ a. Called plain a.1 a.0 (pair_of_word word) (view pass.old) (view pass.new)) }
+    ensures buffers { KeepsBuffers pass.old pass.new }
+{
+    let mut walk = path.walk();
+    let mut from = 1;
+    for line in 0..path.len() / 8 {
+        if let Some(found) = walk_line(table, pass, &walk, from, word) {
+            return Some(found);
+        }
+        walk.advance();
+        from = 0;
+    }
+    None
+}
+
+// Visits the buckets of the path of the word's pair. Most walks end at the first one.
 #[inline]
 fn walk_path<const W: u32, const F: u32>(
     table: &PairTable<PlainRoot<W, F>, W, F>,
@@ -142,14 +177,11 @@ fn walk_path<const W: u32, const F: u32>(
 {
     let sizes = table.sizes();
     let path = Path::<W>::new(word - PRESENT, sizes.roots, sizes.probe);
-    let mut walk = path.walk();
-    for line in 0..path.len() / 8 {
-        if let Some(found) = walk_line(table, pass, &walk, word) {
-            return Some(found);
-        }
-        walk.advance();
+    let walk = path.walk();
+    if let Some(found) = visit(table, pass, walk.bucket(0), word) {
+        return Some(found);
     }
-    None
+    walk_on(table, pass, &path, word)
 }
 
 /// Gives the vector with the root `(left, right)` a name, or finds its name: its identifier, below `2^roots`,

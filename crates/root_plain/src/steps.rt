@@ -20,7 +20,7 @@ use std::marker::Brand;
 
 // The word of a root's bucket.
 #[inline]
-fn root_word(nodes: u32, at: u64) -> usize
+pub(crate) fn root_word(nodes: u32, at: u64) -> usize
     requires { (nodes ≤ 25) × (at < 2 ^ 24) }
     ensures { result ≡ 1 + 2 ^ nodes + at }
 {

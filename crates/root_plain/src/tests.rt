@@ -5,6 +5,7 @@ ghost use Rattle.pair_rule.specs.Rest.{AtRest, view};
 ghost use Rattle.root_plain.specs.Plain.{plain};
 
 mod crowd;
+mod flags;
 
 use crate::{PlainRoot, find_id, put_root, root_pair};
 use pair_nodes::Nodes;
@@ -23,6 +24,7 @@ pub(crate) type StorePass = Pass<PlainRoot<16, 8>, 16, 8>;
 pub(crate) fn store(alloc: Global, roots: u32) -> Result<(Store, StorePass), NoMemory>
     requires { (3 ≤ roots) × (roots ≤ 24) }
     ensures width { IfOk result (λ made. made.0.about.width ≡ 16) }
+    ensures flags { IfOk result (λ made. made.0.about.flags ≡ 8) }
     ensures slots { IfOk result (λ made. made.0.about.slots ≡ 2) }
     ensures rest { IfOk result (λ made. AtRest plain made.0 made.1) }
 {

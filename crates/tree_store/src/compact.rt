@@ -1,6 +1,7 @@
 //! A compact store: the calls on any store, with its roots in cells of regions.
-ghost use Rattle.std.specs.Prelude.{◌≡◌, ℕ, ◌+◌, ◌*◌, None, Some, length};
-ghost use Rattle.tdb_base.specs.History.{Vector, name_of};
+ghost use Rattle.std.specs.Prelude.{◌≡◌, ℕ, ◌+◌, ◌*◌, ◌<◌, None, Some, length};
+ghost use Rattle.tdb_base.specs.History.{Vector, Set, Clear, Look, name_of};
+ghost use Rattle.pair_nodes.specs.Roots.{RootActed};
 ghost use Rattle.pair_rule.specs.Rest.{AtRest, names_of_callers, view, last_vector};
 ghost use Rattle.region_root.specs.Compact.{compact};
 ghost use Rattle.tree_store.specs.Vectors.{IsVector, puts_after};
@@ -126,5 +127,34 @@ impl<const W: u32, const F: u32> TreeStore<CompactRoot<W, F>, W, F> {
             (view pass.now).seen }
     {
         raw_bytes_of(&CompactTable::over(&(), self.nodes()), self, pass)
+    }
+
+    /// As `set_flag` of a plain store, but it waits for the lock of the root's region, which it takes once.
+    pub fn set_flag<H: Wait>(&self, rt: &H, pass: &mut CompactPass<W, F>, id: u64, b: u32) -> bool
+        requires rest { AtRest (compact W F) self.now pass.old }
+        requires named { (vector : Vector) × (name_of (view pass.old).seen vector ≡ Some id) }
+        requires bit { b < self.now.about.flags }
+        ensures { RootActed (compact W F) self.now (Set b result) id pass.old pass.new }
+    {
+        region_root::set_flag(rt, self.nodes(), pass, id, b)
+    }
+
+    /// As `clear_flag` of a plain store, in the same way.
+    pub fn clear_flag<H: Wait>(&self, rt: &H, pass: &mut CompactPass<W, F>, id: u64, b: u32) -> bool
+        requires rest { AtRest (compact W F) self.now pass.old }
+        requires named { (vector : Vector) × (name_of (view pass.old).seen vector ≡ Some id) }
+        requires bit { b < self.now.about.flags }
+        ensures { RootActed (compact W F) self.now (Clear b result) id pass.old pass.new }
+    {
+        region_root::clear_flag(rt, self.nodes(), pass, id, b)
+    }
+
+    /// As `flags` of a plain store, in the same way.
+    pub fn flags<H: Wait>(&self, rt: &H, pass: &mut CompactPass<W, F>, id: u64) -> u64
+        requires rest { AtRest (compact W F) self.now pass.old }
+        requires named { (vector : Vector) × (name_of (view pass.old).seen vector ≡ Some id) }
+        ensures { RootActed (compact W F) self.now (Look result) id pass.old pass.new }
+    {
+        region_root::flags(rt, self.nodes(), pass, id)
     }
 }

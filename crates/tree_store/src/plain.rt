@@ -1,6 +1,7 @@
 //! A plain store: the calls on any store, with its roots in a plain table.
-ghost use Rattle.std.specs.Prelude.{◌≡◌, ℕ, ◌+◌, ◌*◌, None, Some, length};
-ghost use Rattle.tdb_base.specs.History.{Vector, name_of};
+ghost use Rattle.std.specs.Prelude.{◌≡◌, ℕ, ◌+◌, ◌*◌, ◌<◌, None, Some, length};
+ghost use Rattle.tdb_base.specs.History.{Vector, Set, Clear, Look, name_of};
+ghost use Rattle.pair_nodes.specs.Roots.{RootActed};
 ghost use Rattle.pair_rule.specs.Rest.{AtRest, names_of_callers, view, last_vector};
 ghost use Rattle.root_plain.specs.Plain.{plain};
 ghost use Rattle.tree_store.specs.Vectors.{IsVector, puts_after};
@@ -120,5 +121,37 @@ impl<const W: u32, const F: u32> TreeStore<PlainRoot<W, F>, W, F> {
             (view pass.now).seen }
     {
         raw_bytes_of(&PlainTable::over(self.nodes()), self, pass)
+    }
+
+    /// Sets flag `b`, which is below `F`, of the vector with this identifier, which is one that the pass has
+    /// seen named: whether it was clear. It is one call of the store's history, made at one atomic step; the
+    /// last tree stays. It waits for nobody and takes no memory.
+    pub fn set_flag(&self, pass: &mut PlainPass<W, F>, id: u64, b: u32) -> bool
+        requires rest { AtRest plain self.now pass.old }
+        requires named { (vector : Vector) × (name_of (view pass.old).seen vector ≡ Some id) }
+        requires bit { b < self.now.about.flags }
+        ensures { RootActed plain self.now (Set b result) id pass.old pass.new }
+    {
+        root_plain::set_flag(self.nodes(), pass, id, b)
+    }
+
+    /// Clears the flag, in the same way: whether it was set.
+    pub fn clear_flag(&self, pass: &mut PlainPass<W, F>, id: u64, b: u32) -> bool
+        requires rest { AtRest plain self.now pass.old }
+        requires named { (vector : Vector) × (name_of (view pass.old).seen vector ≡ Some id) }
+        requires bit { b < self.now.about.flags }
+        ensures { RootActed plain self.now (Clear b result) id pass.old pass.new }
+    {
+        root_plain::clear_flag(self.nodes(), pass, id, b)
+    }
+
+    /// The flags of the vector with this identifier, which is one that the pass has seen named: bit `b` of
+    /// the number is flag `b`. It is one call of the store's history, made at one atomic step.
+    pub fn flags(&self, pass: &mut PlainPass<W, F>, id: u64) -> u64
+        requires rest { AtRest plain self.now pass.old }
+        requires named { (vector : Vector) × (name_of (view pass.old).seen vector ≡ Some id) }
+        ensures { RootActed plain self.now (Look result) id pass.old pass.new }
+    {
+        root_plain::flags(self.nodes(), pass, id)
     }
 }

@@ -9,6 +9,7 @@ ghost use Rattle.tree_store.specs.Store.{IfNamed};
 
 mod compact;
 mod crowd;
+mod flags;
 
 use crate::{CreateError, PlainPass, PlainStore, TreeStore};
 use pair_rule::{Pass, RootPart, Sizes};
@@ -29,6 +30,7 @@ pub(crate) fn open<R: RootPart<W, F>, const W: u32, const F: u32>(
 ) -> (TreeStore<R, W, F>, Pass<R, W, F>)
     requires layout { IsLayout W F }
     ensures slots { result.0.about.slots ≡ slots }
+    ensures flags { result.0.about.flags ≡ F }
     ensures rest { AtRest R.part result.0 result.1 }
 {
     let Ok(shape) = Shape::new(slots) else {
@@ -49,6 +51,7 @@ fn store<const W: u32, const F: u32>(
 ) -> (PlainStore<W, F>, PlainPass<W, F>)
     requires layout { IsLayout W F }
     ensures slots { result.0.about.slots ≡ slots }
+    ensures flags { result.0.about.flags ≡ F }
     ensures rest { AtRest plain result.0 result.1 }
 {
     let sizes = Sizes {

@@ -26,6 +26,7 @@ pub(crate) fn store<const W: u32, const F: u32>(
 ) -> (CompactStore<W, F>, CompactPass<W, F>)
     requires layout { IsLayout W F }
     ensures slots { result.0.about.slots ≡ slots }
+    ensures flags { result.0.about.flags ≡ F }
     ensures rest { AtRest (compact W F) result.0 result.1 }
 {
     let sizes = Sizes {

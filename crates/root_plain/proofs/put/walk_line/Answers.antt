@@ -14,7 +14,7 @@ loop-i-init g c =
     let pair = pair_of_word c.args.word in
     record {
       rest = c.requires.rest;
-      passes = passes_from c.args.table.now c.args.pass.now pair (8 * c.args.walk.now.passed + 0) c.requires.rest (subst (λ (n : ℕ). Passed (root_buckets about) (Listed (view c.args.pass.now).root.roots) pair n) (omega arith) c.requires.passed);
+      passes = passes_from c.args.table.now c.args.pass.now pair (8 * c.args.walk.now.passed + c.args.from) c.requires.rest c.requires.passed;
       buffers = refl;
     }
 

@@ -1,65 +1,19 @@
-use Rattle.std.proofs.Common.{arith, refl, subst, sym, ap, ◌∙◌, ◌≡◌, ◌+◌, ◌-◌, ◌*◌, ◌^◌, ◌<◌, ◌≤◌, ℕ}
+use Rattle.std.proofs.Common.{arith, refl, [], ◌∷◌, Bool, Option, Some, None, MatchOption, subst, sym, ap, ◌∙◌, ◌≡◌, ◌+◌, ◌-◌, ◌*◌, ◌^◌, ◌<◌, ◌≤◌, ℕ}
 use Rattle.pair_rule.specs.declared.sizes.Sizes.{Sizes}
 use Rattle.pair_rule.proofs.Widths.{layout_of}
 use Rattle.pair_nodes.specs.Probe.{pair_of_word}
-use Rattle.probe_path.specs.Path.{Course, Progress, walked_lines}
-use Rattle.pair_rule.specs.Paths.{root_buckets, Passed, Listed}
+use Rattle.pair_rule.specs.declared.view.View.{View}
+use Rattle.pair_rule.specs.declared.sizes.About.{About}
+use Rattle.pair_rule.specs.Calls.{Called}
+use Rattle.pair_rule.specs.Plays.{Caught}
+use Rattle.pair_rule.specs.Paths.{root_buckets, reach}
 use Rattle.pair_rule.specs.Rest.{view}
-use Rattle.root_plain.specs.Probe.{Along, Passes}
-use Rattle.pair_rule.proofs.Calling.{called_then, some_more, buffers_then}
+use Rattle.pair_rule.proofs.Calling.{called_then, some_more}
 use Rattle.root_plain.specs.Plain.{plain}
-use Rattle.root_plain.proofs.Probing.{passes_none, passes_then, along_path}
+use Rattle.root_plain.specs.declared.root.Roots.{Roots}
+use Rattle.root_plain.specs.Probe.{Passes}
+use Rattle.root_plain.proofs.Probing.{passes_none, passed_on, passes_caught, first_of, bucket_within}
 use Rattle.root_plain.proofs.put.walk_path.Goals as goal
-
-pub loop-line-init : goal.loop-line-init
-loop-line-init g c =
-    let about = c.args.table.now.about in
-    let pair = pair_of_word c.args.word in
-    let sizes = c.sizes-sizes.result.now in
-    let walk : c.walk-walk.result ≡ record { course = c.new-path.result; passed = 0 } = c.walk-walk.ensures in
-    let course : c.walk-walk.result.course ≡ record { pair = pair; d = sizes.roots; lines = walked_lines sizes.roots sizes.probe } = ap (λ (w : Progress). w.course) walk ∙ c.new-path.ensures.course in
-    record {
-      rest = c.requires.rest;
-      along = subst (λ (p : Course). Along about pair p) (sym course) (along_path about sizes pair c.sizes-sizes.ensures.sizes);
-      line = ap (λ (w : Progress). w.passed) walk;
-      end = let len = c.len-line-end.ensures.steps in let same = ap (λ (w : Progress). w.course.lines) walk in omega (arith, len, same);
-      passes = passes_none c.args.table.now c.args.pass.now pair c.requires.rest;
-      buffers = refl;
-    }
-
-pub walk_line-requires : goal.walk_line-requires
-walk_line-requires g c =
-    let about = c.args.table.now.about in
-    let pair = pair_of_word c.args.word in
-    let i = c.loop-line.invariant in
-    let lt : c.loop-line.walk.passed < c.loop-line.walk.course.lines = omega (arith, i.line, i.end, c.loop-line-test.true) in (
-      omega arith,
-      (
-        omega arith,
-        (
-          omega arith,
-          (
-            c.requires.store,
-            (
-              i.rest,
-              (
-                c.requires.word,
-                (
-                  i.along,
-                  (
-                    lt,
-                    (
-                      subst (λ (n : ℕ). Passed (root_buckets about) (Listed (view c.loop-line.pass).root.roots) pair (8 * n)) (sym i.line) i.passes.passed,
-                      some_more plain about pair (view c.args.pass.now) (view c.loop-line.pass) i.passes.caught c.requires.stands,
-                    ),
-                  ),
-                ),
-              ),
-            ),
-          ),
-        ),
-      ),
-    )
 
 pub new-path-requires : goal.new-path-requires
 new-path-requires g c =
@@ -74,23 +28,34 @@ new-path-requires g c =
     part_of_width : {a b : ℕ} (word : ℕ) → word - 9223372036854775808 < 2 ^ (2 * a) → a ≡ b → word - 9223372036854775808 < 2 ^ (2 * b)
     part_of_width word below same = subst (λ (w : ℕ). word - 9223372036854775808 < 2 ^ (2 * w)) same below
 
-pub returns-in-Some-clause-outcome : goal.returns-in-Some-clause-outcome
-returns-in-Some-clause-outcome g c =
-    called_then plain c.in-Some.found.1 c.in-Some.found.0 (pair_of_word c.args.word) (view c.args.pass.now) (view c.loop-line.pass) (view c.walk_line.new.pass) c.loop-line.invariant.passes.caught c.in-Some.ensures.outcome
-
-pub loop-line-preserved : goal.loop-line-preserved
-loop-line-preserved g c =
+pub visit-requires : goal.visit-requires
+visit-requires g c =
     let about = c.args.table.now.about in
     let pair = pair_of_word c.args.word in
-    let i = c.loop-line.invariant in
+    let f = first_of about g.row.W pair c.sizes-sizes.result.now c.new-path.result c.walk-walk.result c.bucket.result c.requires.store.width_is c.sizes-sizes.ensures.sizes c.requires.store.is_about.range.least_probe c.new-path.ensures.course
+    c.walk-walk.ensures c.bucket.ensures.bucket in
+    (omega arith, (omega arith, (c.requires.store, (c.requires.rest, (c.requires.word, (bucket_within about c.bucket.result c.walk-walk.result.course pair f.along c.bucket.ensures.below, ((0, f.near, f.lies, λ k lt. absurd (omega arith)), c.requires.stands)))))))
+
+pub walk_on-requires : goal.walk_on-requires
+walk_on-requires g c =
+    let t = c.args.table.now in
+    let about = t.about in
+    let pair = pair_of_word c.args.word in
+    let f = first_of about g.row.W pair c.sizes-sizes.result.now c.new-path.result c.walk-walk.result c.bucket.result c.requires.store.width_is c.sizes-sizes.ensures.sizes c.requires.store.is_about.range.least_probe c.new-path.ensures.course
+    c.walk-walk.ensures c.bucket.ensures.bucket in
+    let u = view c.args.pass.now in
+    let v = view c.visit.new.pass in
     let e = c.in_default.ensures in
-    let next = passes_then about pair (8 * c.loop-line.line) (8 * c.loop-line.walk.passed + 8) (view c.args.pass.now) (view c.loop-line.pass) (view c.walk_line.new.pass) i.passes e.outcome in
-    let walk : c.advance.new.self ≡ record c.loop-line.walk { passed = c.loop-line.walk.passed + 1 } = c.advance.ensures in
-    record {
-      rest = e.rest;
-      along = subst (λ (p : Course). Along about pair p) (sym (ap (λ (w : Progress). w.course) walk)) i.along;
-      line = ap (λ (w : Progress). w.passed) walk ∙ ap (λ (n : ℕ). n + 1) i.line;
-      end = i.end ∙ sym (ap (λ (w : Progress). w.course.lines) walk);
-      passes = subst (λ (n : ℕ). Passes about pair n (view c.args.pass.now) (view c.walk_line.new.pass)) (omega (arith, i.line)) next;
-      buffers = buffers_then c.args.pass.now c.loop-line.pass c.walk_line.new.pass i.buffers e.buffers;
-    }
+    let one = passed_on about pair 0 c.bucket.result u u v f.lies (passes_none t c.args.pass.now pair c.requires.rest) e.outcome.0 e.outcome.1 in
+    (omega arith, (omega arith, (omega arith, (c.requires.store, (e.rest, (c.requires.word, (f.whole, (f.some_line, (one.passed, some_more plain about pair u v e.outcome.0 c.requires.stands)))))))))
+
+pub returns-clause-outcome : goal.returns-clause-outcome
+returns-clause-outcome g c =
+    let about = c.args.table.now.about in
+    let pair = pair_of_word c.args.word in
+    by about pair (view c.args.pass.now) (view c.visit.new.pass) (view c.walk_on.new.pass) c.in_default.ensures.outcome.0 c.walk_on.result c.walk_on.ensures.outcome
+  where
+    by : (about : About) (pair : ℕ) (u v w : View Roots) → Caught plain [] u v → (o : Option (ℕ × Bool)) → MatchOption o (Passes about pair (reach (root_buckets about)) v w) (λ a. Called plain a.1 a.0 pair v w)
+        → MatchOption o (Passes about pair (reach (root_buckets about)) u w) (λ a. Called plain a.1 a.0 pair u w)
+    by about pair u v w k None e = passes_caught about pair (reach (root_buckets about)) u v w k e
+    by about pair u v w k (Some a) e = called_then plain a.1 a.0 pair u v w k e
