@@ -18,7 +18,7 @@ fn required_word<'a>(alloc: Global, id: &'a str) -> Arg<'a>
 }
 
 fn flag<'a>(alloc: Global, name: &'a str) -> Arg<'a>
-    ensures rule { rule_of result ≡ table.flag name.entry.now }
+    ensures rule { rule_of result ≡ table.flag_rule name.entry.now }
     ensures local { result.global ≡ false }
 {
     Arg::new(alloc, name).long(name).action(ArgAction::SetTrue)
