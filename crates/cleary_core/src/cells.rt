@@ -1,7 +1,7 @@
 //! A cell, and the number that it is written as.
 
 ghost use Rattle.std.specs.Prelude.{◌≡◌, ◌+◌, ◌*◌, ◌^◌, ◌<◌, ◌≤◌};
-ghost use Rattle.cleary_core.specs.Cells.{width, Small, mark_of, packed, unpacked};
+ghost use Rattle.cleary_core.specs.Cells.{width, Small, mark_of, packed, unpacked, marks_in};
 
 /// The sizes of a region: how many cells it has, and the widths of a cell's flags and quotient in bits.
 #[derive(Clone, Copy)]
@@ -20,6 +20,14 @@ pub struct Cell {
     pub change: bool,
     pub flags: u64,
     pub quotient: u64,
+}
+
+// The marks of a cell, without its flags and its quotient.
+#[derive(Clone, Copy)]
+pub(crate) struct CellMarks {
+    pub(crate) occupied: bool,
+    pub(crate) virgin: bool,
+    pub(crate) change: bool,
 }
 
 // The first bit of a cell.
@@ -47,6 +55,18 @@ pub(crate) fn unpack(sizes: &Sizes, word: u64) -> Cell
         change: word / 4 % 2 == 1,
         flags: rest & ((1u64 << sizes.flags) - 1),
         quotient: rest >> sizes.flags,
+    }
+}
+
+// The marks of the cell whose number has these lowest bits.
+#[inline]
+pub(crate) fn unmark(word: u64) -> CellMarks
+    ensures { result ≡ marks_in word }
+{
+    CellMarks {
+        occupied: word % 2 == 1,
+        virgin: word / 2 % 2 == 1,
+        change: word / 4 % 2 == 1,
     }
 }
 

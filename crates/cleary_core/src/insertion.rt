@@ -10,7 +10,7 @@ ghost use Rattle.cleary_core.specs.Search.{InRun, Placed, ReachesEnd, ReachesRow
 
 use crate::access::{ReadWords, WriteWords};
 use crate::cells::Sizes;
-use crate::reading::{group_place, group_seek, read_cell, run_end, run_front};
+use crate::reading::{group_place, group_seek, read_marks, run_end, run_front};
 use crate::writing::{put_alone, put_key, shift_down, shift_up};
 
 /// Every cell of the region is occupied by another key.
@@ -124,13 +124,13 @@ pub(crate) fn insert_key<A: WriteWords>(
     ensures words { A.spans access.new (word_count sizes.now) }
     ensures writes { A.writes access.old access.new }
 {
-    let here = read_cell(sizes, access, home);
+    let here = read_marks(sizes, access, home);
     if !here.occupied {
         put_alone(sizes, access, home, quotient);
         return Ok(true);
     }
     let front = run_front(sizes, access, home);
-    let place = group_place(sizes, access, front.start, front.groups);
+    let place = group_place(sizes, access, front.from, front.groups);
     if group_has(sizes, access, here.virgin, place, quotient) {
         return Ok(false);
     }
