@@ -1,6 +1,6 @@
 -- What the parts of a search find.
-use Rattle.std.specs.Prelude.{◌≡◌, ◌≢◌, ◌⊎◌, ℕ, zero, suc, ◌+◌, ◌-◌, ◌<◌, ◌≤◌, true, false, List, Option, Some}
-use Rattle.std.specs.Prelude.{MatchOption}
+use Rattle.std.specs.Prelude.{◌≡◌, ◌≢◌, ◌⊎◌, ℕ, zero, suc, ◌+◌, ◌-◌, ◌<◌, ◌≤◌, List, Option, Some}
+use Rattle.std.specs.Prelude.{MatchOption, Bool, true, false}
 use Rattle.cleary_core.specs.declared.cells.Cell.{Cell}
 use Rattle.cleary_core.specs.declared.cells.Sizes.{Sizes}
 use Rattle.cleary_core.specs.Access.{HasReached, Reaches}
@@ -49,6 +49,13 @@ pub record Placed (n : ℕ) (slots : Slots) (start at home : ℕ) : Type 0 where
   pub splits : Splits slots at home
   pub from : start ≤ at
   pub row : (i : ℕ) → start ≤ i → i < at → Taken slots i
+
+-- a home in the run that begins at `start`, whose group stands from `at` on, or would; and whether it has one
+pub record IsGroupPlace (n : ℕ) (cells : ℕ → Cell) (slots : Slots) (start at home : ℕ) (virgin : Bool)
+    : Type 0 where
+  pub run : InRun n cells slots start home
+  pub placed : Placed n slots start at home
+  pub mark : (cells home).virgin ≡ virgin
 
 -- the homes up to some have their groups before `at`, and so many more before `home` have one
 pub record OnTheWay (n : ℕ) (cells : ℕ → Cell) (slots : Slots) (start at home left : ℕ) : Type 0 where

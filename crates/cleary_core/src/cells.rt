@@ -3,22 +3,29 @@
 ghost use Rattle.std.specs.Prelude.{◌≡◌, ◌+◌, ◌*◌, ◌^◌, ◌<◌, ◌≤◌};
 ghost use Rattle.cleary_core.specs.Cells.{width, Small, mark_of, packed, unpacked, marks_in};
 
-/// The sizes of a region: how many cells it has, and the widths of a cell's flags and quotient in bits.
+/// The sizes of a region.
 #[derive(Clone, Copy)]
 pub struct Sizes {
+    /// How many cells: a multiple of 64, at most 4096.
     pub cells: u64,
+    /// How many bits a cell has for flags: at least 1, and with the quotient's at most 60.
     pub flags: u32,
+    /// How many it has for a quotient: at least 1.
     pub quotient: u32,
 }
 
-/// One cell. `virgin` says that some key has this cell as its home, `change` that this cell is the last of
-/// its group; the others belong to the key that stands here.
+/// One cell: three marks, and the flags and the quotient of the key that stands here.
 #[derive(Clone, Copy)]
 pub struct Cell {
+    /// Whether a key stands here. All other bits of a cell where none does are 0.
     pub occupied: bool,
+    /// Whether some key has this cell as its home, wherever that key stands.
     pub virgin: bool,
+    /// Whether this is the last cell of a group.
     pub change: bool,
+    /// The key's flags as one number.
     pub flags: u64,
+    /// The key's quotient.
     pub quotient: u64,
 }
 

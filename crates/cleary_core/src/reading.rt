@@ -110,6 +110,7 @@ fn front_of(start: u64, edge: u64, groups: u64, ends: u64) -> RunFront
 }
 
 // What stands in the run of an occupied `home` before it.
+#[inline]
 pub(crate) fn run_front<A: ReadWords>(sizes: &Sizes, access: &mut A, home: u64) -> RunFront
     requires region { IsRegion sizes.now }
     requires words { A.spans access.old (word_count sizes.now) }
@@ -140,6 +141,7 @@ pub(crate) fn run_front<A: ReadWords>(sizes: &Sizes, access: &mut A, home: u64) 
 }
 
 // Where the group that stands from `from` on ends: the cell after its last, or the number of cells.
+#[inline]
 fn group_end<A: ReadWords>(sizes: &Sizes, access: &mut A, from: u64) -> u64
     requires region { IsRegion sizes.now }
     requires words { A.spans access.old (word_count sizes.now) }
@@ -164,6 +166,7 @@ fn group_end<A: ReadWords>(sizes: &Sizes, access: &mut A, from: u64) -> u64
 }
 
 // Where the group of a home begins, or would begin, in its run: from `from` on, after so many other groups.
+#[inline]
 pub(crate) fn group_place<A: ReadWords>(
     sizes: &Sizes,
     access: &mut A,
@@ -190,6 +193,7 @@ pub(crate) fn group_place<A: ReadWords>(
 }
 
 // The cell from `from` to the end of its group that has the quotient.
+#[inline]
 pub(crate) fn group_seek<A: ReadWords>(
     sizes: &Sizes,
     access: &mut A,
@@ -222,6 +226,7 @@ pub(crate) fn group_seek<A: ReadWords>(
 }
 
 // The first cell from `from` on that isn't occupied, or the number of cells.
+#[inline]
 pub(crate) fn run_end<A: ReadWords>(sizes: &Sizes, access: &mut A, from: u64) -> u64
     requires region { IsRegion sizes.now }
     requires words { A.spans access.old (word_count sizes.now) }
@@ -245,6 +250,7 @@ pub(crate) fn run_end<A: ReadWords>(sizes: &Sizes, access: &mut A, from: u64) ->
 }
 
 // The cell that has the key.
+#[inline]
 pub(crate) fn locate<A: ReadWords>(
     sizes: &Sizes,
     access: &mut A,
