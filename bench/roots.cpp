@@ -1,5 +1,5 @@
-// The yardstick's tables of roots on the roots that `measure roots` asks for, by one thread: microseconds for roots that are put, put again and looked for.
-// Arguments: 1 plain, 2 compact; S; FILL in percent; PUTS; LOOKS.
+// The yardstick's tables of roots on the roots that `measure roots` asks for, by so many threads, each with its share of them: microseconds for roots that are
+// put, put again and looked for. Arguments: 1 plain, 2 compact; S; FILL in percent; PUTS; LOOKS; THREADS.
 #include <chrono>
 #include <cstdio>
 #include <cstdlib>
@@ -8,6 +8,8 @@
 #include <cstring>
 #include <algorithm>
 #include <string>
+#include <atomic>
+#include <thread>
 #include "store.hpp"
 
 constexpr unsigned W = 28, F = 7, ROOTS = 18;
@@ -42,22 +44,28 @@ static bool look(Compact &st, u64 pair) {
 int main(int argc, char **argv) {
   auto word = [&](int i, u64 otherwise) { return argc > i ? strtoull(argv[i], nullptr, 10) : otherwise; };
   const bool compact = word(1, 2) == 2;
-  const u64 s = word(2, 8), count = (word(3, 50) << ROOTS) / 100, puts = word(4, 1), looks = word(5, 1);
+  const u64 s = word(2, 8), count = (word(3, 50) << ROOTS) / 100, puts = word(4, 1), looks = word(5, 1), threads = word(6, 1);
   Compact st(Sizes{3, ROOTS, (unsigned)s, 4194304}, 2, compact, false);
-  u64 missed = 0;
-  auto timed = [](u64 rounds, auto &&body) {
+  std::atomic<u64> missed{0};
+  auto timed = [&](u64 rounds, auto &&misses) {
     const auto start = std::chrono::steady_clock::now();
-    for (u64 i = 0; i < rounds; i++) body();
+    auto share = [&](u64 t) {
+      u64 none = 0;
+      for (u64 i = 0; i < rounds; i++)
+        for (u64 n = t * count / threads; n < (t + 1) * count / threads; n++) none += misses((n >> 9 & 0xFFFFF) << W | (n & 0x1FF));
+      missed += none;
+    };
+    std::vector<std::thread> others;
+    for (u64 t = 1; t < threads; t++) others.emplace_back(share, t);
+    share(0);
+    for (auto &other : others) other.join();
     return (unsigned long long)std::chrono::duration_cast<std::chrono::microseconds>(std::chrono::steady_clock::now() - start).count();
   };
-  auto pair = [](u64 n) { return (n >> 9 & 0xFFFFF) << W | (n & 0x1FF); };
-  auto put_all = [&] {
-    for (u64 n = 0; n < count; n++) {
-      bool fresh = false;
-      missed += compact ? !put(st, pair(n)) : put_pair<W>(st.roots, ROOTS, st.z.probe, pair(n), fresh) < 0;
-    }
+  auto put_misses = [&](u64 pair) {
+    bool fresh = false;
+    return compact ? !put(st, pair) : put_pair<W>(st.roots, ROOTS, st.z.probe, pair, fresh) < 0;
   };
-  auto look_all = [&] { for (u64 n = 0; n < count; n++) missed += !compact || !look(st, pair(n)); };
-  const auto fresh = timed(1, put_all), again = timed(puts, put_all), looked = timed(looks, look_all);
-  fprintf(stderr, "%s %llu %llu %llu %llu\n", compact ? "compact" : "plain", fresh, again, looked, (unsigned long long)missed);
+  auto look_misses = [&](u64 pair) { return !compact || !look(st, pair); };
+  const auto fresh = timed(1, put_misses), again = timed(puts, put_misses), looked = timed(looks, look_misses);
+  fprintf(stderr, "%s %llu %llu %llu %llu\n", compact ? "compact" : "plain", fresh, again, looked, (unsigned long long)missed.load());
 }

@@ -7,10 +7,11 @@ use Rattle.std.specs.Int.RustNames.{bit_or}
 use lib.Bits.{bit_and}
 use Rattle.std.proofs.lemmas.Nat.{pow-add, pow_pos, mul-add-lt, mod_low, mod_below, shr_high, shr_below, shl_whole, or_shifted, one_shl, and_mask}
 use Rattle.packed_word.specs.Slice.{bit, field}
-use Rattle.packed_word.proofs.FieldBits.{field_same, field_is, field_below, field_bit, bit_place}
+use Rattle.packed_word.proofs.FieldBits.{field_same, field_is, field_below, field_bit, field_part, bit_place}
 use Rattle.cleary_core.specs.declared.cells.Cell.{Cell}
 use Rattle.cleary_core.specs.declared.cells.Sizes.{Sizes}
-use Rattle.cleary_core.specs.Cells.{width, IsRegion, Small, mark_of, packed, unpacked, cell_at, sizes_of, word_count}
+use Rattle.cleary_core.specs.declared.cells.CellMarks.{CellMarks}
+use Rattle.cleary_core.specs.Cells.{width, IsRegion, Small, mark_of, packed, unpacked, cell_marks, marks_in, cell_at, sizes_of, word_count}
 
 pub same_cell : (a b : Cell) → a.occupied ≡ b.occupied → a.virgin ≡ b.virgin → a.change ≡ b.change → a.flags ≡ b.flags → a.quotient ≡ b.quotient → a ≡ b
 same_cell a b o v c f q =
@@ -147,21 +148,49 @@ region_of W F r s a b =
 pub window : (words part : List ℕ) (at first width : ℕ) → ((t : ℕ) → t < width → bit part (first + t) ≡ bit words (at + t)) → field part first width ≡ field words at width
 window words part at first width same = field_is words at width (field part first width) (field_below part first width) (λ t h. field_bit part first width t h ∙ same t h)
 
+-- a field within one word
+pub field_in_one : (words : List ℕ) (at width low : ℕ) → at % 64 + width ≤ 64 → get_or words (at / 64) 0 ≡ low → field (low ∷ []) (at % 64) width ≡ field words at width
+field_in_one words at width low fits is =
+    let offset : ℕ = at % 64 in
+    window words (low ∷ []) at offset width (λ t h.
+    bit_place (low ∷ []) (offset + t) 0 (offset + t) (omega arith) (omega arith) ∙ ap (λ m. bit_at m (offset + t)) (sym is) ∙ sym (bit_place words (at + t) (at / 64) (offset + t) (omega arith) (omega arith)))
+
+-- a field across two words
+pub field_in_two : (words : List ℕ) (at width low high : ℕ) → width ≤ 64 → get_or words (at / 64) 0 ≡ low → get_or words (at / 64 + 1) 0 ≡ high → field (low ∷ high ∷ []) (at % 64) width ≡ field words at width
+field_in_two words at width low high fits is more =
+    let offset : ℕ = at % 64 in
+    window words (low ∷ high ∷ []) at offset width (λ t h. ⊎_elim
+    (λ (less : offset + t < 64). bit_place (low ∷ high ∷ []) (offset + t) 0 (offset + t) (omega arith) less ∙ ap (λ m. bit_at m (offset + t)) (sym is) ∙ sym (bit_place words (at + t) (at / 64) (offset + t) (omega arith) less))
+    (λ (past : 64 ≤ offset + t). bit_place (low ∷ high ∷ []) (offset + t) 1 (offset + t - 64) (omega arith) (omega arith) ∙ ap (λ m. bit_at m (offset + t - 64)) (sym more) ∙ sym (bit_place words (at + t) (at / 64 + 1) (offset + t - 64) (omega arith) (omega arith)))
+    (cases_lt (offset + t) 64))
+
 -- a cell within one word
 pub in_one : (z : Sizes) (words : List ℕ) (i at low : ℕ) → at ≡ i * width z → at % 64 + width z ≤ 64 → get_or words (at / 64) 0 ≡ low → cell_at z words i ≡ unpacked z (field (low ∷ []) (at % 64) (width z))
 unfolding cell_at
-in_one z words i at low e fits is =
-    let offset : ℕ = at % 64 in
-    ap (λ n. unpacked z n) (ap (λ n. field words n (width z)) (sym e) ∙ sym (window words (low ∷ []) at offset (width z) (λ t h.
-    bit_place (low ∷ []) (offset + t) 0 (offset + t) (omega arith) (omega arith) ∙ ap (λ m. bit_at m (offset + t)) (sym is) ∙ sym (bit_place words (at + t) (at / 64) (offset + t) (omega arith) (omega arith)))))
+in_one z words i at low e fits is = ap (λ n. unpacked z n) (ap (λ n. field words n (width z)) (sym e) ∙ sym (field_in_one words at (width z) low fits is))
 
 -- a cell across two words
 pub in_two : (z : Sizes) (words : List ℕ) (i at low high : ℕ) → at ≡ i * width z → width z ≤ 64 → get_or words (at / 64) 0 ≡ low → get_or words (at / 64 + 1) 0 ≡ high → cell_at z words i ≡ unpacked z (field (low ∷ high ∷ []) (at % 64) (width z))
 unfolding cell_at
-in_two z words i at low high e fits is more =
-    let offset : ℕ = at % 64 in
-    let part : List ℕ = low ∷ high ∷ [] in
-    ap (λ n. unpacked z n) (ap (λ n. field words n (width z)) (sym e) ∙ sym (window words (low ∷ high ∷ []) at offset (width z) (λ t h. ⊎_elim
-    (λ (less : offset + t < 64). bit_place (low ∷ high ∷ []) (offset + t) 0 (offset + t) (omega arith) less ∙ ap (λ m. bit_at m (offset + t)) (sym is) ∙ sym (bit_place words (at + t) (at / 64) (offset + t) (omega arith) less))
-    (λ (past : 64 ≤ offset + t). bit_place (low ∷ high ∷ []) (offset + t) 1 (offset + t - 64) (omega arith) (omega arith) ∙ ap (λ m. bit_at m (offset + t - 64)) (sym more) ∙ sym (bit_place words (at + t) (at / 64 + 1) (offset + t - 64) (omega arith) (omega arith)))
-    (cases_lt (offset + t) 64))))
+in_two z words i at low high e fits is more = ap (λ n. unpacked z n) (ap (λ n. field words n (width z)) (sym e) ∙ sym (field_in_two words at (width z) low high fits is more))
+
+-- the marks are the three lowest bits
+same_marks : (a b : CellMarks) → a.occupied ≡ b.occupied → a.virgin ≡ b.virgin → a.change ≡ b.change → a ≡ b
+same_marks a b o v c =
+    ap (λ x. let y : CellMarks = record { occupied = x; virgin = a.virgin; change = a.change } in y) o
+    ∙ ap (λ x. let y : CellMarks = record { occupied = b.occupied; virgin = x; change = a.change } in y) v
+    ∙ ap (λ x. let y : CellMarks = record { occupied = b.occupied; virgin = b.virgin; change = x } in y) c
+
+marks_low : (w m : ℕ) → m ≡ w % 8 → marks_in w ≡ marks_in m
+marks_low w m e =
+    let o : w % 2 ≡ m % 2 = omega arith in
+    let v : w / 2 % 2 ≡ m / 2 % 2 = omega arith in
+    let c : w / 4 % 2 ≡ m / 4 % 2 = omega arith in
+    same_marks (marks_in w) (marks_in m) (ap (λ n. eqb n 1) o) (ap (λ n. eqb n 1) v) (ap (λ n. eqb n 1) c)
+
+pub marks_as : (z : Sizes) (words : List ℕ) (i at m : ℕ) → at ≡ i * width z → m ≡ field words at 3 → cell_marks (cell_at z words i) ≡ marks_in m
+unfolding cell_at
+marks_as z words i at m e is =
+    let w : ℕ = field words (i * width z) (width z) in
+    let low : w / 2 ^ 0 % 2 ^ 3 ≡ field words (i * width z + 0) 3 = field_part words (i * width z) (width z) 0 3 (omega arith) in
+    marks_low w m (is ∙ ap (λ n. field words n 3) (omega arith) ∙ sym low ∙ omega arith)

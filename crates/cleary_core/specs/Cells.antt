@@ -2,6 +2,7 @@
 use Rattle.std.specs.Prelude.{◌≡◌, ℕ, ◌+◌, ◌-◌, ◌*◌, ◌/◌, ◌%◌, ◌<◌, ◌≤◌, ◌^◌, ◌==◌, Bool, true, false, List}
 use Rattle.packed_word.specs.Slice.{field}
 use Rattle.cleary_core.specs.declared.cells.Cell.{Cell}
+use Rattle.cleary_core.specs.declared.cells.CellMarks.{CellMarks}
 use Rattle.cleary_core.specs.declared.cells.Sizes.{Sizes}
 
 -- how many bits a cell has
@@ -36,6 +37,13 @@ unpacked z w = record {
   flags = w / 8 % 2 ^ z.flags;
   quotient = w / 8 / 2 ^ z.flags;
 }
+
+-- the marks of a cell, and of a number
+abbrev pub cell_marks : Cell → CellMarks
+cell_marks c = record { occupied = c.occupied; virgin = c.virgin; change = c.change }
+
+abbrev pub marks_in : ℕ → CellMarks
+marks_in w = record { occupied = w % 2 == 1; virgin = w / 2 % 2 == 1; change = w / 4 % 2 == 1 }
 
 -- cell i of the words
 unfoldable pub cell_at : Sizes → List ℕ → ℕ → Cell

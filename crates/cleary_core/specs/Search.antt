@@ -1,6 +1,6 @@
 -- What the parts of a search find.
-use Rattle.std.specs.Prelude.{◌≡◌, ◌≢◌, ℕ, zero, suc, ◌+◌, ◌-◌, ◌<◌, ◌≤◌, true, false, List, Option, Some}
-use Rattle.std.specs.Prelude.{MatchOption}
+use Rattle.std.specs.Prelude.{◌≡◌, ◌≢◌, ◌⊎◌, ℕ, zero, suc, ◌+◌, ◌-◌, ◌<◌, ◌≤◌, List, Option, Some}
+use Rattle.std.specs.Prelude.{MatchOption, Bool, true, false}
 use Rattle.cleary_core.specs.declared.cells.Cell.{Cell}
 use Rattle.cleary_core.specs.declared.cells.Sizes.{Sizes}
 use Rattle.cleary_core.specs.Access.{HasReached, Reaches}
@@ -22,11 +22,19 @@ abbrev pub virgins : (ℕ → Cell) → ℕ → ℕ → ℕ
 virgins cells low zero = 0
 virgins cells low (suc count) = mark_of (cells low).virgin + virgins cells (suc low) count
 
--- the run of an occupied home begins at `start`, and so many homes before it have a group
-pub record Front (cells : ℕ → Cell) (start groups home : ℕ) : Type 0 where
+-- how many of them have change
+abbrev pub changes : (ℕ → Cell) → ℕ → ℕ → ℕ
+changes cells low zero = 0
+changes cells low (suc count) = mark_of (cells low).change + changes cells (suc low) count
+
+-- the run of an occupied home begins at `start`, and from `from` on, where a group ends or the run begins, so
+-- many groups stand before the home's
+pub record Front (cells : ℕ → Cell) (start from groups home : ℕ) : Type 0 where
   pub row : Row cells start home
   pub edge : 0 < start → (cells (start - 1)).occupied ≡ false
-  pub count : groups ≡ virgins cells start (home - start)
+  pub inside : (start ≤ from) × (from ≤ home)
+  pub ends : (from ≡ start) ⊎ ((cells (from - 1)).change ≡ true)
+  pub count : groups + changes cells start (from - start) ≡ virgins cells start (home - start)
 
 -- a home in the run that begins at `start`, in cells that keep a map
 pub record InRun (n : ℕ) (cells : ℕ → Cell) (slots : Slots) (start home : ℕ) : Type 0 where
@@ -41,6 +49,20 @@ pub record Placed (n : ℕ) (slots : Slots) (start at home : ℕ) : Type 0 where
   pub splits : Splits slots at home
   pub from : start ≤ at
   pub row : (i : ℕ) → start ≤ i → i < at → Taken slots i
+
+-- a home in the run that begins at `start`, whose group stands from `at` on, or would; and whether it has one
+pub record IsGroupPlace (n : ℕ) (cells : ℕ → Cell) (slots : Slots) (start at home : ℕ) (virgin : Bool)
+    : Type 0 where
+  pub run : InRun n cells slots start home
+  pub placed : Placed n slots start at home
+  pub mark : (cells home).virgin ≡ virgin
+
+-- the homes up to some have their groups before `at`, and so many more before `home` have one
+pub record OnTheWay (n : ℕ) (cells : ℕ → Cell) (slots : Slots) (start at home left : ℕ) : Type 0 where
+  pub passed : ℕ
+  pub inside : passed ≤ home
+  pub placed : Placed n slots start at passed
+  pub rest : left ≡ virgins cells passed (home - passed)
 
 -- no cell of some has change
 abbrev pub Unbroken : (ℕ → Cell) → ℕ → ℕ → Type 0

@@ -1,7 +1,7 @@
 //! The words of a region, as they are reached one at a time.
 
 ghost use Rattle.std.specs.Prelude.{◌≡◌, ◌⊎◌, ℕ, ◌<◌, List, length, slice_index, slice_set};
-ghost use Rattle.cleary_core.specs.Access.{HasReached};
+ghost use Rattle.cleary_core.specs.Access.{StaysReached, AreReached};
 
 /// The words of a region as they are reached, one at a time.
 ///
@@ -31,7 +31,7 @@ pub trait ReadWords {
     ghost joins: { (x y z : Self) → reads x y → reads y z → reads x z };
 
     // Reading leaves how many words there are, and what was found stays found.
-    ghost keeps: { (x y : Self) → reads x y → ((count : ℕ) → spans x count → spans y count) × ((i m : ℕ) → reached x i m → reached y i m) };
+    ghost keeps: { (x y : Self) → reads x y → StaysReached (spans x) (spans y) (reached x) (reached y) };
 }
 
 /// The words of a region that are the caller's own to read and write, one at a time.
@@ -53,7 +53,7 @@ pub trait WriteWords: ReadWords {
         ensures writes { writes self.old self.new };
 
     // The words are so many, and what was found are they.
-    ghost stands: { (x : Self) (count : ℕ) → Self.spans x count → (length (words x) ≡ count) × HasReached (Self.reached x) (words x) };
+    ghost stands: { (x : Self) (count : ℕ) → Self.spans x count → AreReached (Self.reached x) (words x) count };
 
     // Reading leaves them.
     ghost same: { (x y : Self) → Self.reads x y → (words y ≡ words x) × writes x y };
@@ -83,6 +83,7 @@ impl<'a> ReadWords for SliceReader<'a> {
 
     ghost keeps = { λ x y r. (λ count e. ap (λ s. length s.words.now) r ∙ e, λ i m h. ap (λ s. slice_index s.words.now i) r ∙ h) };
 
+    #[inline]
     fn get(&mut self, place: usize) -> u64 {
         self.words[place]
     }
@@ -110,6 +111,7 @@ impl<'a> ReadWords for SliceWriter<'a> {
 
     ghost keeps = { λ x y r. (λ count e. ap (λ w. length w) r.0 ∙ e, λ i m h. ap (λ w. slice_index w i) r.0 ∙ h) };
 
+    #[inline]
     fn get(&mut self, place: usize) -> u64 {
         self.words[place]
     }
@@ -129,6 +131,7 @@ impl<'a> WriteWords for SliceWriter<'a> {
 
     ghost links = { λ x y z p q. q ∙ p };
 
+    #[inline]
     fn put(&mut self, place: usize, value: u64) {
         self.words[place] = value;
     }

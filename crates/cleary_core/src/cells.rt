@@ -1,25 +1,40 @@
 //! A cell, and the number that it is written as.
 
 ghost use Rattle.std.specs.Prelude.{◌≡◌, ◌+◌, ◌*◌, ◌^◌, ◌<◌, ◌≤◌};
-ghost use Rattle.cleary_core.specs.Cells.{width, Small, mark_of, packed, unpacked};
+ghost use Rattle.cleary_core.specs.Cells.{width, Small, mark_of, packed, unpacked, marks_in};
 
-/// The sizes of a region: how many cells it has, and the widths of a cell's flags and quotient in bits.
+/// The sizes of a region.
 #[derive(Clone, Copy)]
 pub struct Sizes {
+    /// How many cells: a multiple of 64, at most 4096.
     pub cells: u64,
+    /// How many bits a cell has for flags: at least 1, and with the quotient's at most 60.
     pub flags: u32,
+    /// How many it has for a quotient: at least 1.
     pub quotient: u32,
 }
 
-/// One cell. `virgin` says that some key has this cell as its home, `change` that this cell is the last of
-/// its group; the others belong to the key that stands here.
+/// One cell: three marks, and the flags and the quotient of the key that stands here.
 #[derive(Clone, Copy)]
 pub struct Cell {
+    /// Whether a key stands here. All other bits of a cell where none does are 0.
     pub occupied: bool,
+    /// Whether some key has this cell as its home, wherever that key stands.
     pub virgin: bool,
+    /// Whether this is the last cell of a group.
     pub change: bool,
+    /// The key's flags as one number.
     pub flags: u64,
+    /// The key's quotient.
     pub quotient: u64,
+}
+
+// The marks of a cell, without its flags and its quotient.
+#[derive(Clone, Copy)]
+pub(crate) struct CellMarks {
+    pub(crate) occupied: bool,
+    pub(crate) virgin: bool,
+    pub(crate) change: bool,
 }
 
 // The first bit of a cell.
@@ -47,6 +62,18 @@ pub(crate) fn unpack(sizes: &Sizes, word: u64) -> Cell
         change: word / 4 % 2 == 1,
         flags: rest & ((1u64 << sizes.flags) - 1),
         quotient: rest >> sizes.flags,
+    }
+}
+
+// The marks of the cell whose number has these lowest bits.
+#[inline]
+pub(crate) fn unmark(word: u64) -> CellMarks
+    ensures { result ≡ marks_in word }
+{
+    CellMarks {
+        occupied: word % 2 == 1,
+        virgin: word / 2 % 2 == 1,
+        change: word / 4 % 2 == 1,
     }
 }
 

@@ -6,11 +6,11 @@ ghost use Rattle.cleary_core.specs.Answers.{Tells, Answered};
 ghost use Rattle.cleary_core.specs.Cells.{IsRegion, cell_at, word_count};
 ghost use Rattle.cleary_core.specs.Change.{Belongs, InOneRun};
 ghost use Rattle.cleary_core.specs.Map.{Key, Keeps, KeepsMap};
-ghost use Rattle.cleary_core.specs.Search.{InRun, Placed, ReachesEnd, ReachesRow, ReachesRun};
+ghost use Rattle.cleary_core.specs.Search.{IsGroupPlace, ReachesEnd, ReachesRow, ReachesRun};
 
 use crate::access::{ReadWords, WriteWords};
 use crate::cells::Sizes;
-use crate::reading::{group_place, group_seek, read_cell, run_end, run_front};
+use crate::reading::{group_place, group_seek, read_marks, run_end, run_front};
 use crate::writing::{put_alone, put_key, shift_down, shift_up};
 
 /// Every cell of the region is occupied by another key.
@@ -29,6 +29,7 @@ pub(crate) struct Gap {
 }
 
 // Whether the group at `place` has the quotient. A home that isn't virgin has none.
+#[inline]
 fn group_has<A: ReadWords>(
     sizes: &Sizes,
     access: &mut A,
@@ -39,12 +40,15 @@ fn group_has<A: ReadWords>(
     requires region { IsRegion sizes.now }
     requires words { A.spans access.old (word_count sizes.now) }
     requires inside { place ≤ sizes.now.cells }
-    ensures tells { (words : List ℕ) (keys : List Key) (start home : ℕ) → HasReached (A.reached access.new) words
+    ensures tells { (words : List ℕ) (keys : List Key) (start home : ℕ)
+        → HasReached (A.reached access.new) words
         → (k : Keeps sizes.now.cells (cell_at sizes.now words) keys)
-        → InRun sizes.now.cells (cell_at sizes.now words) k.slots start home → Placed sizes.now.cells k.slots start place home → (cell_at sizes.now words home).virgin ≡ virgin → Tells result keys home quotient }
-    ensures near { (words : List ℕ) (keys : List Key) (start home : ℕ) → HasReached (A.reached access.new) words
+        → IsGroupPlace sizes.now.cells (cell_at sizes.now words) k.slots start place home virgin
+        → Tells result keys home quotient }
+    ensures near { (words : List ℕ) (keys : List Key) (start home : ℕ)
+        → HasReached (A.reached access.new) words
         → (k : Keeps sizes.now.cells (cell_at sizes.now words) keys)
-        → InRun sizes.now.cells (cell_at sizes.now words) k.slots start home → Placed sizes.now.cells k.slots start place home → (cell_at sizes.now words home).virgin ≡ virgin
+        → IsGroupPlace sizes.now.cells (cell_at sizes.now words) k.slots start place home virgin
         → ReachesRow (A.reached access.old) (A.reached access.new) sizes.now (cell_at sizes.now words) place }
     ensures reads { A.reads access.old access.new }
     ensures words { A.spans access.new (word_count sizes.now) }
@@ -60,6 +64,7 @@ fn group_has<A: ReadWords>(
 
 // Adds a key that the map hasn't: the keys from its place on move by one towards the run's end, or those
 // before it towards the run's start.
+#[inline]
 fn add_key<A: WriteWords>(
     sizes: &Sizes,
     access: &mut A,
@@ -73,7 +78,8 @@ fn add_key<A: WriteWords>(
     requires small { quotient < 2 ^ sizes.now.quotient }
     requires kept { (keys : List Key) × KeepsMap sizes.now (A.words access.old) keys }
     requires gap { (keys : List Key) (k : Keeps sizes.now.cells (cell_at sizes.now (A.words access.old)) keys)
-        → Belongs sizes.now.cells (cell_at sizes.now (A.words access.old)) k.slots keys gap.now.start gap.now.place home quotient gap.now.fresh }
+        → Belongs sizes.now.cells (cell_at sizes.now (A.words access.old)) k.slots keys
+        gap.now.start gap.now.place home quotient gap.now.fresh }
     ensures answer { (keys : List Key) → KeepsMap sizes.now (A.words access.old) keys
         → Answered result sizes.now keys home quotient (A.words access.new) }
     ensures unchanged { MatchResult result
@@ -101,6 +107,7 @@ fn add_key<A: WriteWords>(
 }
 
 // Adds a key, if the map hasn't it.
+#[inline]
 pub(crate) fn insert_key<A: WriteWords>(
     sizes: &Sizes,
     access: &mut A,
@@ -124,13 +131,13 @@ pub(crate) fn insert_key<A: WriteWords>(
     ensures words { A.spans access.new (word_count sizes.now) }
     ensures writes { A.writes access.old access.new }
 {
-    let here = read_cell(sizes, access, home);
+    let here = read_marks(sizes, access, home);
     if !here.occupied {
         put_alone(sizes, access, home, quotient);
         return Ok(true);
     }
     let front = run_front(sizes, access, home);
-    let place = group_place(sizes, access, front.start, front.groups);
+    let place = group_place(sizes, access, front.from, front.groups);
     if group_has(sizes, access, here.virgin, place, quotient) {
         return Ok(false);
     }

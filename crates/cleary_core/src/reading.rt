@@ -3,13 +3,13 @@
 ghost use Rattle.std.specs.Prelude.{◌≡◌, ℕ, suc, true, false, ◌+◌, ◌-◌, ◌*◌, ◌<◌, ◌≤◌, List, MatchBool};
 ghost use Rattle.std.specs.Prelude.{MatchOption, ⊤};
 ghost use Rattle.cleary_core.specs.Access.{HasReached, Reaches};
-ghost use Rattle.cleary_core.specs.Cells.{width, IsRegion, Small, cell_at, word_count};
+ghost use Rattle.cleary_core.specs.Cells.{width, IsRegion, Small, cell_at, word_count, mark_of, cell_marks};
 ghost use Rattle.cleary_core.specs.Map.{Key, Slots, Keeps, KeepsMap};
-ghost use Rattle.cleary_core.specs.Search.{virgins, Front, InRun, Placed, HasChange, EndsGroup, RunEnd};
+ghost use Rattle.cleary_core.specs.Search.{Front, InRun, Placed, OnTheWay, HasChange, EndsGroup, RunEnd};
 ghost use Rattle.cleary_core.specs.Search.{Searched, Located, ReachesRun, ReachesGroup};
 
 use crate::access::ReadWords;
-use crate::cells::{Cell, Sizes, mark, start_of, unpack};
+use crate::cells::{Cell, CellMarks, Sizes, mark, start_of, unmark, unpack};
 use packed_word::Bits;
 
 // A cell, of which one or two words are read.
@@ -37,41 +37,111 @@ pub(crate) fn read_cell<A: ReadWords>(sizes: &Sizes, access: &mut A, i: u64) -> 
     unpack(sizes, Bits::get(&[low, high], offset as u64, bits))
 }
 
+// The marks of a cell, of which one word is read, or two where the marks lie in both.
+#[inline]
+pub(crate) fn read_marks<A: ReadWords>(sizes: &Sizes, access: &mut A, i: u64) -> CellMarks
+    requires region { IsRegion sizes.now }
+    requires words { A.spans access.old (word_count sizes.now) }
+    requires inside { i < sizes.now.cells }
+    ensures value { (words : List ℕ) → HasReached (A.reached access.new) words
+        → cell_marks (cell_at sizes.now words i) ≡ result }
+    ensures near { Reaches (A.reached access.old) (A.reached access.new) sizes.now i (suc i) }
+    ensures reads { A.reads access.old access.new }
+    ensures words { A.spans access.new (word_count sizes.now) }
+{
+    let at = start_of(sizes, i);
+    let place = (at / 64) as usize;
+    let offset = (at % 64) as u32;
+    let low = access.get(place);
+    if offset + 3 <= 64 {
+        return unmark(Bits::get(&[low], offset as u64, 3));
+    }
+    let high = access.get(place + 1);
+    unmark(Bits::get(&[low, high], offset as u64, 3))
+}
+
 // What stands before a home in its run.
 #[derive(Clone, Copy)]
 pub(crate) struct RunFront {
     // The first cell of the run.
     pub(crate) start: u64,
-    // How many homes from there up to the home, without it, have a group.
+    // A cell from there up to the home, where a group ended before it or the run begins.
+    pub(crate) from: u64,
+    // How many groups stand between that cell and the home's group.
     pub(crate) groups: u64,
 }
 
+// Where the last group ended before a home, once the cell before `start` is read too: the cell after that
+// group, or the first cell that was read where none has ended.
+#[inline]
+fn edge_after(ends: u64, edge: u64, start: u64, change: bool) -> u64
+    requires { 0 < start }
+    ensures first { ends ≡ 0 → result ≡ start - 1 + mark_of change }
+    ensures later { 0 < ends → result ≡ edge }
+{
+    if ends == 0 {
+        start - 1 + mark(change)
+    } else {
+        edge
+    }
+}
+
+// What stands before a home, of which so many before it have a group and so many groups have ended, the last
+// before `edge`. More groups than those have ended where the home's own began to the left of it.
+#[inline]
+fn front_of(start: u64, edge: u64, groups: u64, ends: u64) -> RunFront
+    ensures start { result.start ≡ start }
+    ensures near { ends ≤ groups → (result.from ≡ edge) × (result.groups + ends ≡ groups) }
+    ensures far { groups < ends → (result.from ≡ start) × (result.groups ≡ groups) }
+{
+    if ends <= groups {
+        RunFront {
+            start,
+            from: edge,
+            groups: groups - ends,
+        }
+    } else {
+        RunFront {
+            start,
+            from: start,
+            groups,
+        }
+    }
+}
+
 // What stands in the run of an occupied `home` before it.
+#[inline]
 pub(crate) fn run_front<A: ReadWords>(sizes: &Sizes, access: &mut A, home: u64) -> RunFront
     requires region { IsRegion sizes.now }
     requires words { A.spans access.old (word_count sizes.now) }
     requires inside { home < sizes.now.cells }
     ensures low { result.start ≤ home }
+    ensures from { (result.start ≤ result.from) × (result.from ≤ home) }
     ensures front { (words : List ℕ) → HasReached (A.reached access.new) words
-        → Front (cell_at sizes.now words) result.start result.groups home }
+        → Front (cell_at sizes.now words) result.start result.from result.groups home }
     ensures near { Reaches (A.reached access.old) (A.reached access.new) sizes.now (result.start - 1) home }
     ensures reads { A.reads access.old access.new }
     ensures words { A.spans access.new (word_count sizes.now) }
 {
     let mut start = home;
+    let mut edge = home;
     let mut groups = 0;
+    let mut ends = 0;
     while start > 0 {
-        let left = read_cell(sizes, access, start - 1);
+        let left = read_marks(sizes, access, start - 1);
         if !left.occupied {
-            return RunFront { start, groups };
+            return front_of(start, edge, groups, ends);
         }
+        edge = edge_after(ends, edge, start, left.change);
         groups += mark(left.virgin);
+        ends += mark(left.change);
         start -= 1;
     }
-    RunFront { start, groups }
+    front_of(start, edge, groups, ends)
 }
 
 // Where the group that stands from `from` on ends: the cell after its last, or the number of cells.
+#[inline]
 fn group_end<A: ReadWords>(sizes: &Sizes, access: &mut A, from: u64) -> u64
     requires region { IsRegion sizes.now }
     requires words { A.spans access.old (word_count sizes.now) }
@@ -86,7 +156,7 @@ fn group_end<A: ReadWords>(sizes: &Sizes, access: &mut A, from: u64) -> u64
 {
     let mut at = from;
     while at < sizes.cells {
-        let cell = read_cell(sizes, access, at);
+        let cell = read_marks(sizes, access, at);
         at += 1;
         if cell.change {
             return at;
@@ -95,26 +165,27 @@ fn group_end<A: ReadWords>(sizes: &Sizes, access: &mut A, from: u64) -> u64
     at
 }
 
-// Where the group of a home begins, or would begin, in the run that begins at `start`, after so many other
-// groups.
+// Where the group of a home begins, or would begin, in its run: from `from` on, after so many other groups.
+#[inline]
 pub(crate) fn group_place<A: ReadWords>(
     sizes: &Sizes,
     access: &mut A,
-    start: u64,
+    from: u64,
     groups: u64,
 ) -> u64
     requires region { IsRegion sizes.now }
     requires words { A.spans access.old (word_count sizes.now) }
-    requires inside { start ≤ sizes.now.cells }
-    ensures bounds { (start ≤ result) × (result ≤ sizes.now.cells) }
-    ensures place { (words : List ℕ) (slots : Slots) (home : ℕ) → HasReached (A.reached access.new) words
+    requires inside { from ≤ sizes.now.cells }
+    ensures bounds { (from ≤ result) × (result ≤ sizes.now.cells) }
+    ensures place { (words : List ℕ) (slots : Slots) (start home : ℕ) → HasReached (A.reached access.new) words
         → InRun sizes.now.cells (cell_at sizes.now words) slots start home
-        → groups ≡ virgins (cell_at sizes.now words) start (home - start) → Placed sizes.now.cells slots start result home }
-    ensures near { Reaches (A.reached access.old) (A.reached access.new) sizes.now start result }
+        → OnTheWay sizes.now.cells (cell_at sizes.now words) slots start from home groups
+        → Placed sizes.now.cells slots start result home }
+    ensures near { Reaches (A.reached access.old) (A.reached access.new) sizes.now from result }
     ensures reads { A.reads access.old access.new }
     ensures words { A.spans access.new (word_count sizes.now) }
 {
-    let mut at = start;
+    let mut at = from;
     for _ in 0..groups {
         at = group_end(sizes, access, at);
     }
@@ -122,6 +193,7 @@ pub(crate) fn group_place<A: ReadWords>(
 }
 
 // The cell from `from` to the end of its group that has the quotient.
+#[inline]
 pub(crate) fn group_seek<A: ReadWords>(
     sizes: &Sizes,
     access: &mut A,
@@ -154,6 +226,7 @@ pub(crate) fn group_seek<A: ReadWords>(
 }
 
 // The first cell from `from` on that isn't occupied, or the number of cells.
+#[inline]
 pub(crate) fn run_end<A: ReadWords>(sizes: &Sizes, access: &mut A, from: u64) -> u64
     requires region { IsRegion sizes.now }
     requires words { A.spans access.old (word_count sizes.now) }
@@ -167,7 +240,7 @@ pub(crate) fn run_end<A: ReadWords>(sizes: &Sizes, access: &mut A, from: u64) ->
 {
     let mut end = from;
     while end < sizes.cells {
-        let here = read_cell(sizes, access, end);
+        let here = read_marks(sizes, access, end);
         if !here.occupied {
             return end;
         }
@@ -177,6 +250,7 @@ pub(crate) fn run_end<A: ReadWords>(sizes: &Sizes, access: &mut A, from: u64) ->
 }
 
 // The cell that has the key.
+#[inline]
 pub(crate) fn locate<A: ReadWords>(
     sizes: &Sizes,
     access: &mut A,
@@ -196,11 +270,11 @@ pub(crate) fn locate<A: ReadWords>(
     ensures reads { A.reads access.old access.new }
     ensures words { A.spans access.new (word_count sizes.now) }
 {
-    let here = read_cell(sizes, access, home);
+    let here = read_marks(sizes, access, home);
     if !here.virgin {
         return None;
     }
     let front = run_front(sizes, access, home);
-    let place = group_place(sizes, access, front.start, front.groups);
+    let place = group_place(sizes, access, front.from, front.groups);
     group_seek(sizes, access, place, quotient)
 }

@@ -39,6 +39,7 @@ impl<const W: u32, const F: u32> Model for Region<W, F> {
 
 impl<const W: u32, const F: u32> Region<W, F> {
     /// A region of `2^s` cells, `s` from 6 to 12, of a table of `2^r` cells, `r` from `s` to 24.
+    #[inline]
     pub fn over(r: u32, s: u32) -> Region<W, F>
         requires sizes { (6 ≤ s) × (s ≤ 12) × (s ≤ r) × (r ≤ 24) }
         requires profile { (r < 2 * W) × (1 ≤ F) × (2 * W + F ≤ 63) }
@@ -55,6 +56,7 @@ impl<const W: u32, const F: u32> Region<W, F> {
     }
 
     /// How many words the region has.
+    #[inline]
     pub fn words(&self) -> usize
         ensures { result ≡ word_count self.now }
     {
@@ -103,6 +105,7 @@ impl<const W: u32, const F: u32> Region<W, F> {
     /// It ends and stays within the region whatever it finds, also where the words are of no one moment and
     /// keep no map. What it reached decides its answer: whatever words agree with that and keep a map, the
     /// answer is true of that map.
+    #[inline]
     pub fn find_in<A: ReadWords>(&self, access: &mut A, home: u64, quotient: u64) -> bool
         requires words { A.spans access.old (word_count self.now) }
         requires home { home < self.now.cells }
@@ -140,6 +143,7 @@ impl<const W: u32, const F: u32> Region<W, F> {
 
     /// `insert` into words that are reached one at a time: those of the home's run, and of the cell on either
     /// side of it. It puts only words that change, and only cells of the run change.
+    #[inline]
     pub fn insert_in<A: WriteWords>(
         &self,
         access: &mut A,
@@ -178,6 +182,7 @@ impl<const W: u32, const F: u32> Region<W, F> {
 
     /// `flags` of words that are reached one at a time: those of the home's run, and of the cell on either
     /// side of it. As with `find_in`, what it reached decides the answer.
+    #[inline]
     pub fn flags_in<A: ReadWords>(&self, access: &mut A, home: u64, quotient: u64) -> u64
         requires words { A.spans access.old (word_count self.now) }
         requires home { home < self.now.cells }
@@ -212,6 +217,7 @@ impl<const W: u32, const F: u32> Region<W, F> {
 
     /// `set_flags` of words that are reached one at a time: those of the home's run, and of the cell on
     /// either side of it. It puts only words that change.
+    #[inline]
     pub fn set_flags_in<A: WriteWords>(&self, access: &mut A, home: u64, quotient: u64, value: u64)
         requires words { A.spans access.old (word_count self.now) }
         requires home { home < self.now.cells }

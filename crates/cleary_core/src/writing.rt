@@ -58,6 +58,7 @@ pub(crate) fn own_cell<A: WriteWords>(sizes: &Sizes, access: &mut A, i: u64) -> 
 }
 
 // Writes a cell: of the one or two words that have it, those that change.
+#[inline]
 pub(crate) fn write_cell<A: WriteWords>(sizes: &Sizes, access: &mut A, i: u64, cell: Cell)
     requires region { IsRegion sizes.now }
     requires words { A.spans access.old (word_count sizes.now) }
@@ -90,6 +91,7 @@ pub(crate) fn write_cell<A: WriteWords>(sizes: &Sizes, access: &mut A, i: u64, c
 }
 
 // Writes a key into its home, which is empty and then its group's only cell.
+#[inline]
 pub(crate) fn put_alone<A: WriteWords>(sizes: &Sizes, access: &mut A, home: u64, quotient: u64)
     requires region { IsRegion sizes.now }
     requires words { A.spans access.old (word_count sizes.now) }
@@ -112,6 +114,7 @@ pub(crate) fn put_alone<A: WriteWords>(sizes: &Sizes, access: &mut A, home: u64,
 }
 
 // Writes a key into a cell, and marks its home.
+#[inline]
 pub(crate) fn put_key<A: WriteWords>(
     sizes: &Sizes,
     access: &mut A,
@@ -153,6 +156,7 @@ pub(crate) fn put_key<A: WriteWords>(
 }
 
 // Moves the keys from `place` up to `free` by one cell. The virgin marks stay.
+#[inline]
 pub(crate) fn shift_up<A: WriteWords>(sizes: &Sizes, access: &mut A, place: u64, free: u64)
     requires region { IsRegion sizes.now }
     requires words { A.spans access.old (word_count sizes.now) }

@@ -1,6 +1,11 @@
 //! Times parts of the store, and prints the times to standard error: `USAGE` has the words.
 #![tactic(auto)]
 
+ghost use Rattle.std.specs.Prelude.{IfSome};
+ghost use Rattle.measure.specs.Asked.{IsAsked};
+
+mod callers;
+mod calls;
 mod clock;
 mod nodes;
 mod read_trace;
@@ -89,7 +94,7 @@ fn time_region(rt: &HostRuntime, words: &[String]) -> io::Result<Option<ExitCode
     Ok(Some(region::time(rt, exponent as u32, fill, rounds)?))
 }
 
-fn time_roots<H: Wait>(
+fn time_roots<H: Threads + Wait + Sync>(
     rt: &HostRuntime,
     handle: &H,
     words: &[String],
@@ -97,26 +102,31 @@ fn time_roots<H: Wait>(
     let Some(tables) = number(words, 2, 1, 3, 3) else {
         return Ok(None);
     };
-    let Some(region) = number(words, 3, 6, 12, 8) else {
+    let Some(asked) = roots_asked(words) else {
         return Ok(None);
     };
-    let Some(fill) = number(words, 4, 0, 100, 50) else {
-        return Ok(None);
-    };
-    let Some(puts) = number(words, 5, 0, 1000, 1) else {
-        return Ok(None);
-    };
-    let Some(looks) = number(words, 6, 0, 1000, 1) else {
-        return Ok(None);
-    };
-    if words.len() > 7 {
-        return Ok(None);
+    Ok(Some(roots::time(rt, handle, tables % 2 == 1, tables >= 2, asked)?))
+}
+
+// What the words ask of the tables of roots.
+fn roots_asked(words: &[String]) -> Option<roots::Asked>
+    ensures { IfSome result IsAsked }
+{
+    let region = number(words, 3, 6, 12, 8)?;
+    let fill = number(words, 4, 0, 100, 50)?;
+    let puts = number(words, 5, 0, 1_000_000, 1)?;
+    let looks = number(words, 6, 0, 1_000_000, 1)?;
+    let threads = number(words, 7, 1, 64, 1)?;
+    let roots = number(words, 8, 6, 18, 18)?;
+    if words.len() > 9 || region > roots {
+        return None;
     }
-    let asked = roots::Asked {
+    Some(roots::Asked {
+        roots: roots as u32,
         region: region as u32,
         fill,
         puts,
         looks,
-    };
-    Ok(Some(roots::time(rt, handle, tables % 2 == 1, tables >= 2, asked)?))
+        threads,
+    })
 }

@@ -1,13 +1,13 @@
 //! Times the shared table of pairs, without roots.
 
-ghost use Rattle.std.specs.Prelude.{◌≡◌, ◌≤◌, ◌<◌, ◌^◌, All, IfOk};
+ghost use Rattle.std.specs.Prelude.{◌≡◌, ◌≤◌, ◌<◌, ◌^◌, All};
 ghost use Rattle.pair_rule.specs.Rest.{AtRest};
 ghost use Rattle.pair_rule.specs.NoRoots.{no_roots};
 
+use crate::callers::{Caller, missed_by, split_callers};
 use crate::clock::nanoseconds_since;
 use pair_nodes::Nodes;
-use pair_rule::{NoRoot, PairTable, Pass, PassOf, Sizes};
-use std::alloc::Global;
+use pair_rule::{NoRoot, PairTable, Pass, Sizes};
 use std::process::ExitCode;
 use std::thread::Threads;
 use std::time::Instant;
@@ -18,15 +18,6 @@ type Table = PairTable<NoRoot, 28, 7>;
 
 // How many pairs are put.
 const PAIRS: u64 = 1 << 19;
-
-// A caller, the pairs that are its share, and for how many of its calls the table was full.
-#[derive(Drop)]
-struct Caller {
-    pass: PassOf<()>,
-    from: u64,
-    to: u64,
-    full: u64,
-}
 
 // Finds or puts the pairs with these numbers; answers how often the table was full.
 fn put_all(nodes: &Nodes<NoRoot, 28, 7>, pass: &mut Pass<NoRoot, 28, 7>, from: u64, to: u64) -> u64
@@ -49,7 +40,7 @@ fn put_all(nodes: &Nodes<NoRoot, 28, 7>, pass: &mut Pass<NoRoot, 28, 7>, from: u
 fn put_shares<H: Threads + Sync>(
     handle: &H,
     nodes: &Nodes<NoRoot, 28, 7>,
-    callers: &mut [Caller],
+    callers: &mut [Caller<()>],
     all: bool,
 )
     requires width { nodes.now.about.width ≡ 28 }
@@ -62,7 +53,7 @@ fn put_shares<H: Threads + Sync>(
             handle,
             callers,
             count,
-            &|_, caller: &mut Caller|
+            &|_, caller: &mut Caller<()>|
                 requires width { nodes.now.about.width ≡ 28 }
                 requires rest { AtRest no_roots nodes.now caller.now.pass }
                 ensures { AtRest no_roots nodes.entry.now caller.exit.now.pass }
@@ -72,36 +63,10 @@ fn put_shares<H: Threads + Sync>(
                 } else {
                     (caller.from, caller.to)
                 };
-                caller.full = put_all(nodes, &mut caller.pass, from, to);
+                caller.missed = put_all(nodes, &mut caller.pass, from, to);
             },
         );
     }
-}
-
-// So many callers, to each its share of the pairs.
-fn split_callers(
-    alloc: Global,
-    nodes: &Nodes<NoRoot, 28, 7>,
-    pass: &mut Pass<NoRoot, 28, 7>,
-    count: u64,
-) -> Result<Vec<Caller>, NoMemory>
-    requires count { (1 ≤ count) × (count ≤ 64) }
-    requires rest { AtRest no_roots nodes.now pass.old }
-    ensures callers { IfOk result (λ v. All (λ c. AtRest no_roots nodes.now c.pass) v.items) }
-{
-    let table = nodes.table();
-    let share = PAIRS / count;
-    let mut callers = Vec::new(alloc);
-    for number in 0..count {
-        let pass = table.split(alloc, pass)?;
-        callers.push(Caller {
-            pass,
-            from: number * share,
-            to: number * share + share,
-            full: 0,
-        })?;
-    }
-    Ok(callers)
 }
 
 /// Makes a table of `2^exponent` buckets, and prints how long that took; then so many threads put pairs into
@@ -163,14 +128,23 @@ fn time_pairs<H: Threads + Sync>(
 {
     let (table, mut pass) = Table::create(rt.alloc(), &sizes_of(20), 16)?;
     let nodes = Nodes::over(table);
-    let mut callers = split_callers(rt.alloc(), &nodes, &mut pass, threads)?;
-    let put = timed(rt, handle, &nodes, callers.as_mut_slice(), false);
-    let found = timed(rt, handle, &nodes, callers.as_mut_slice(), true);
-    let mut full = 0u64;
-    for caller in &callers {
-        full = full.saturating_add(caller.full);
-    }
-    Ok((put, found, full))
+    let mut callers = split_callers(rt.alloc(), nodes.table(), &mut pass, threads, PAIRS)?;
+    Ok(time_rounds(rt, handle, &nodes, callers.as_mut_slice()))
+}
+
+// The same of these callers.
+fn time_rounds<H: Threads + Sync>(
+    rt: &HostRuntime,
+    handle: &H,
+    nodes: &Nodes<NoRoot, 28, 7>,
+    callers: &mut [Caller<()>],
+) -> (u64, u64, u64)
+    requires width { nodes.now.about.width ≡ 28 }
+    requires callers { All (λ c. AtRest no_roots nodes.now c.pass) callers.old }
+{
+    let put = timed(rt, handle, nodes, callers, false);
+    let found = timed(rt, handle, nodes, callers, true);
+    (put, found, missed_by(callers))
 }
 
 // Microseconds for one round of all callers.
@@ -178,7 +152,7 @@ fn timed<H: Threads + Sync>(
     rt: &HostRuntime,
     handle: &H,
     nodes: &Nodes<NoRoot, 28, 7>,
-    callers: &mut [Caller],
+    callers: &mut [Caller<()>],
     all: bool,
 ) -> u64
     requires width { nodes.now.about.width ≡ 28 }

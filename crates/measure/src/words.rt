@@ -4,7 +4,8 @@ ghost use Rattle.std.specs.Prelude.{◌≤◌, IfSome};
 
 /// What the words may be.
 pub const USAGE: &str = "usage: measure read-trace [TRIES] | nodes [D [THREADS]] | \
-    region [S [FILL [ROUNDS]]] | roots [TABLES [S [FILL [PUTS [LOOKS]]]]]";
+    region [S [FILL [ROUNDS]]] | \
+    roots [TABLES [S [FILL [PUTS [LOOKS [THREADS [R]]]]]]]";
 
 /// The number that the word at this place writes, from `low` to `high`; `otherwise`, where no word stands
 /// there.

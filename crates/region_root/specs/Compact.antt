@@ -14,8 +14,8 @@ use Rattle.pair_rule.specs.Part.{Part}
 use Rattle.region_root.specs.declared.root.Regions.{Regions}
 use Rattle.region_root.specs.declared.root.Holding.{Holding}
 use Rattle.region_root.specs.declared.root.Reading.{Reading}
-use Rattle.region_root.specs.Layout.{IsSized, IsOut, cells_of, compact_word_count, regions, words_each, most, lock_of, part}
-use Rattle.region_root.specs.Layout.{region_of, IsPacked, KeepsRoots}
+use Rattle.region_root.specs.Layout.{IsSized, IsOut, cells_of, compact_word_count, regions, words_each}
+use Rattle.region_root.specs.Layout.{most, lock_of, part, region_of, IsPacked, KeepsRoots}
 use Rattle.region_root.specs.Maps.{roots_of, IsMapOf, InRegion, FewEach, IsFull}
 
 -- A lock word is even where its region is free, and odd where it is held.
@@ -119,8 +119,9 @@ LoadsTell about x loads answer = (words : List ℕ) (map : List (ℕ × ℕ)) �
     → InRegion about (region_of about x) map
     → MatchBool answer ((flags : ℕ) × Has (x, flags) map) ((flags : ℕ) → Has (x, flags) map → ⊥)
 
--- One region was read once without its lock, where the root x was wanted. It was found, or found to be absent,
--- by what was loaded while no other call held the region; or it was not found, since the lock word changed.
+-- One region was read once without its lock, where the root x was wanted. It was found, or found to be
+-- absent, by what was loaded while no other call held the region; or it was not found, since the lock word
+-- changed.
 pub record Looked (about : About) (x : ℕ) (found : Bool) (t u : Regions) : Type 0 where
   pub reader : Reading
   pub knows : u ≡ record t { reader = reader ∷ []; peeks = suc t.peeks }

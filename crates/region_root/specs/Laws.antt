@@ -25,8 +25,8 @@ use Rattle.pair_rule.proofs.Lists.{at_unmap, each_set, each_snoc, map_same, of_s
 use Rattle.pair_rule.proofs.Histories.{longer_is}
 use Rattle.region_root.specs.declared.root.Regions.{Regions}
 use Rattle.region_root.specs.declared.root.Holding.{Holding}
-use Rattle.region_root.specs.Layout.{IsSized, compact_word_count, regions, words_each, most, lock_of, start, part}
-use Rattle.region_root.specs.Layout.{IsPacked, KeepsRoots}
+use Rattle.region_root.specs.Layout.{IsSized, compact_word_count, regions, words_each, most, lock_of}
+use Rattle.region_root.specs.Layout.{start, part, IsPacked, KeepsRoots}
 use Rattle.region_root.specs.Maps.{roots_of, IsMapOf, FewEach}
 use Rattle.region_root.specs.Compact.{IsEven, IsOdd, nothing, IsCompact, HoldsRegion, held_of, Viewed, Locks}
 use Rattle.region_root.specs.Compact.{Compact, KnowsRegions, HousedInRegions}

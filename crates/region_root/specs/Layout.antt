@@ -1,5 +1,6 @@
 -- Where the words of a compact root table lie, and to which region and cell a root is split.
-use Rattle.std.specs.Prelude.{◌≡◌, ◌⊎◌, ℕ, ◌+◌, ◌*◌, ◌-◌, ◌^◌, ◌<◌, ◌≤◌, List, [], ◌∷◌, take, drop, slice_index}
+use Rattle.std.specs.Prelude.{◌≡◌, ◌⊎◌, ℕ, ◌+◌, ◌*◌, ◌-◌, ◌^◌, ◌<◌, ◌≤◌, List, [], ◌∷◌}
+use Rattle.std.specs.Prelude.{take, drop, slice_index}
 use Rattle.packed_word.specs.Word.{IsLayout}
 use Rattle.mix_hash.specs.declared.Place.{Place}
 use Rattle.mix_hash.specs.Hash.{mix_of}
@@ -45,7 +46,8 @@ unfoldable pub region_words : ℕ → ℕ → Sizes → ℕ
 region_words width flags sizes = word_count (region_cells width flags sizes)
 
 abbrev pub compact_word_count : ℕ → ℕ → Sizes → ℕ
-compact_word_count width flags sizes = region_count sizes + region_count sizes * region_words width flags sizes
+compact_word_count width flags sizes =
+    region_count sizes + region_count sizes * region_words width flags sizes
 
 -- the same of a table
 abbrev pub cells_of : About → CellSizes

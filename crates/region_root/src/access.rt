@@ -46,6 +46,7 @@ impl<'a, 'b, const W: u32, const F: u32> ReadWords for Reader<'a, 'b, W, F> {
       loaded_keep W F x.table.now x.pass.now y.pass.now r.3,
     ) };
 
+    #[inline]
     fn get(&mut self, place: usize) -> u64 {
         load_peeked(self.table, self.pass, self.from, place)
     }
@@ -81,6 +82,7 @@ impl<'a, 'b, const W: u32, const F: u32> ReadWords for Holder<'a, 'b, W, F> {
       same_words x.pass.now y.pass.now r.3,
     ) };
 
+    #[inline]
     fn get(&mut self, place: usize) -> u64 {
         load_held(self.table, self.pass, self.from, place)
     }
@@ -112,12 +114,14 @@ impl<'a, 'b, const W: u32, const F: u32> WriteWords for Holder<'a, 'b, W, F> {
           (subst (λ s. Rewrites W F s y.pass.now z.pass.now) p.0 q.3),
     ) };
 
+    #[inline]
     fn put(&mut self, place: usize, value: u64) {
         store_held(self.table, self.pass, self.from, place, value);
     }
 }
 
 // Whether a region's map has the key, as a reader finds it.
+#[inline]
 pub(crate) fn find_read<const W: u32, const F: u32>(
     table: &PairTable<CompactRoot<W, F>, W, F>,
     pass: &mut PassOf<Regions>,
@@ -136,6 +140,7 @@ pub(crate) fn find_read<const W: u32, const F: u32>(
 }
 
 // The same, as the region's holder finds it.
+#[inline]
 pub(crate) fn find_held<const W: u32, const F: u32>(
     table: &PairTable<CompactRoot<W, F>, W, F>,
     pass: &mut PassOf<Regions>,
@@ -155,6 +160,7 @@ pub(crate) fn find_held<const W: u32, const F: u32>(
 }
 
 // Adds a key to the map of the held region.
+#[inline]
 pub(crate) fn insert_held<const W: u32, const F: u32>(
     table: &PairTable<CompactRoot<W, F>, W, F>,
     pass: &mut PassOf<Regions>,

@@ -15,6 +15,7 @@ use mix_hash::Place;
 use pair_rule::{PairTable, Pass};
 
 // Under the lock of its region, adds the root, if it isn't there.
+#[inline]
 pub(crate) fn add_root<const W: u32, const F: u32>(
     table: &PairTable<CompactRoot<W, F>, W, F>,
     pass: &mut Pass<CompactRoot<W, F>, W, F>,
@@ -35,6 +36,7 @@ pub(crate) fn add_root<const W: u32, const F: u32>(
 }
 
 // Whether the held region has the root.
+#[inline]
 pub(crate) fn has_root<const W: u32, const F: u32>(
     table: &PairTable<CompactRoot<W, F>, W, F>,
     pass: &mut Pass<CompactRoot<W, F>, W, F>,

@@ -36,6 +36,7 @@ fn pause(looks: u32) -> u32 {
 }
 
 // Takes a region, for which it waits while another holds it. Answers the odd value of the lock word.
+#[inline]
 pub(crate) fn lock_region<H: Wait, const W: u32, const F: u32>(
     rt: &H,
     table: &PairTable<CompactRoot<W, F>, W, F>,

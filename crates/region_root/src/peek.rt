@@ -66,6 +66,7 @@ fn look_for<const W: u32, const F: u32>(
 }
 
 // One look at the root's region.
+#[inline]
 fn peek_pair<const W: u32, const F: u32>(
     table: &PairTable<CompactRoot<W, F>, W, F>,
     pass: &mut Pass<CompactRoot<W, F>, W, F>,
@@ -98,6 +99,7 @@ fn peek_pair<const W: u32, const F: u32>(
 /// make no call and tick nothing. `Absent`: at one moment the root was not there, and its vector has no name
 /// that the pass has then seen. `Changed`: the region was held, or its lock word was another at the second
 /// look, or is at its last even value.
+#[inline]
 pub fn peek_root<L: Ledger, const W: u32, const F: u32>(
     nodes: &Nodes<CompactRoot<W, F>, W, F>,
     pass: &mut Pass<CompactRoot<W, F>, W, F>,

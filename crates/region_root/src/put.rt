@@ -26,6 +26,7 @@ use std::sync::Wait;
 use tdb_base::{Act, Ledger, Steps};
 
 // From the lock, of which this is the odd value, to the unlock.
+#[inline]
 fn put_locked<const W: u32, const F: u32>(
     table: &PairTable<CompactRoot<W, F>, W, F>,
     pass: &mut Pass<CompactRoot<W, F>, W, F>,
@@ -52,6 +53,7 @@ fn put_locked<const W: u32, const F: u32>(
 }
 
 // Puts the root under the lock of its region, for which it waits.
+#[inline]
 fn put_pair<H: Wait, const W: u32, const F: u32>(
     rt: &H,
     table: &PairTable<CompactRoot<W, F>, W, F>,
@@ -75,6 +77,7 @@ fn put_pair<H: Wait, const W: u32, const F: u32>(
 ///
 /// Waits for the lock of the root's region, and takes it once. Ticks once, and takes no memory. `RootsFull`:
 /// each cell of the region has another root; no call was made.
+#[inline]
 pub fn put_root<H: Wait, L: Ledger, const W: u32, const F: u32>(
     rt: &H,
     nodes: &Nodes<CompactRoot<W, F>, W, F>,

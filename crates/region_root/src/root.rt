@@ -7,6 +7,7 @@ use std::collections::LinkedList;
 
 /// A region that a pass holds.
 pub struct Holding {
+    /// Its number among the table's regions.
     pub region: u64,
     /// The odd value that it wrote to the region's lock word.
     pub lock: u64,
@@ -18,6 +19,7 @@ pub struct Holding {
 
 /// A region that a pass reads without its lock.
 pub struct Reading {
+    /// Its number among the table's regions.
     pub region: u64,
     /// The wanted root, as one number.
     pub pair: u64,
@@ -35,8 +37,9 @@ pub struct Regions {
     pub held: LinkedList<Holding>,
     /// The region that it read last, if it read one.
     pub reader: LinkedList<Reading>,
-    /// How often it read without a lock, and how often it took one.
+    /// How often it read one without a lock.
     pub peeks: u64,
+    /// How often it took a lock and gave it back.
     pub locks: u64,
 }
 

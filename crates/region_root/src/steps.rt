@@ -10,8 +10,8 @@ ghost use Rattle.region_root.specs.declared.root.Holding.{Holding};
 ghost use Rattle.region_root.specs.declared.root.Reading.{Reading};
 ghost use Rattle.region_root.specs.Layout.{regions, words_each, start, KeepsRoots};
 ghost use Rattle.region_root.specs.Compact.{IsEven, last, compact};
-ghost use Rattle.region_root.specs.Plays.{MayEnd, Told, IsNextLock, frees_tells, peeks_tells, recopied, reading};
-ghost use Rattle.region_root.specs.Plays.{peeking, reloaded, Closed};
+ghost use Rattle.region_root.specs.Plays.{MayEnd, Told, IsNextLock, frees_tells, peeks_tells, recopied};
+ghost use Rattle.region_root.specs.Plays.{reading, peeking, reloaded, Closed};
 ghost use Rattle.region_root.specs.Work.{ending_of, gives_name, AtWork, Locked};
 
 use crate::plays::{Closes, Copies, Frees, Intends, Peeks, Reads, Stores, Takes};
