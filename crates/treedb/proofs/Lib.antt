@@ -4,9 +4,10 @@ pub mod OfferLemmas
 pub mod PairLemmas
 pub mod AgreeLemmas
 pub mod RunLemmas
+pub mod NewLemmas
+pub mod Parts
 pub mod Stores
 pub mod Outcomes
 pub mod ReadBackLemmas
-pub mod NewLemmas
 pub mod Complete
 pub mod Ending

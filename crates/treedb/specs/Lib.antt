@@ -4,8 +4,9 @@ pub mod Check
 pub mod Pairs
 pub mod Stored
 pub mod ReadBack
-pub mod Answered
 pub mod Run
+pub mod Answered
+pub mod Filling
 pub mod Note
 pub mod Reading
 pub mod Outcome

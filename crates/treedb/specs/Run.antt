@@ -13,6 +13,7 @@ use Rattle.tdb_base.specs.Replies.{is_full}
 use Rattle.tdb_base.specs.declared.reply.Reply.{Reply}
 use Rattle.tdb_base.specs.declared.reply.Status.{Status}
 use Rattle.tdb_base.specs.declared.reply.Status.TheVariants as s
+use Rattle.root_plain.specs.Plain.{plain}
 use Rattle.trace_csv.specs.Input.{limit}
 use Rattle.trace_csv.specs.Output.{TakesFront}
 use Rattle.trace_csv.specs.Report.{report, summary_of, summary_text}
@@ -63,7 +64,7 @@ pub record GivesWithin (old new : Option (List ℕ)) (status : Status) : Type 0 
 
 -- what stands behind the replies: a plain store, or pairs
 abbrev pub IsOfMode : Mode → Choice → List Vector → List Reply → History → Option Stats → Type 0
-IsOfMode Plain c trace replies h stats = InStore c trace replies h stats
+IsOfMode Plain c trace replies h stats = InStore plain c trace replies h stats
 IsOfMode Compact c trace replies h stats = IsOfPairs c.profile replies h × (stats ≡ None)
 
 -- a run that inserts lines, of a choice over the input that a source tells: its lines, a reply for each, and

@@ -6,8 +6,8 @@ ghost use Rattle.treedb.specs.Offered.{is_offered};
 ghost use Rattle.treedb.specs.Outcome.{EndsAs};
 
 use crate::ended::Ended;
+use crate::fill::insert_lines;
 use crate::output::write_counts;
-use crate::store::insert_lines;
 use command_line::{Choice, Job};
 use std::alloc::Global;
 use std::thread::Threads;

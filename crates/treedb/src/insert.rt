@@ -5,9 +5,9 @@ ghost use Rattle.treedb.specs.Offered.{is_offered};
 ghost use Rattle.treedb.specs.Outcome.{EndsAs};
 
 use crate::ended::Ended;
+use crate::fill::insert_lines;
 use crate::input::read_lines;
 use crate::output::write_replies;
-use crate::store::insert_lines;
 use command_line::{Choice, Job};
 use std::alloc::Global;
 use std::thread::Threads;

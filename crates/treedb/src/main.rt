@@ -6,6 +6,7 @@ mod bench;
 mod check;
 mod distinct;
 mod ended;
+mod fill;
 mod input;
 mod insert;
 mod job;

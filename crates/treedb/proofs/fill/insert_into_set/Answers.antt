@@ -10,7 +10,7 @@ use Rattle.treedb.specs.ReadBack.{IfPrinted, IsReadBack}
 use Rattle.treedb.specs.Run.{IsOfMode}
 use Rattle.treedb.proofs.LineLemmas.{pairs_taken, takes_compact}
 use Rattle.treedb.proofs.OfferLemmas.{offered_pairs}
-use Rattle.treedb.proofs.store.insert_into_set.Goals as goal
+use Rattle.treedb.proofs.fill.insert_into_set.Goals as goal
 
 small_profile : (n : ℕ) → IsProfile n → n ≤ 31
 small_profile n p = ⊎_elim (λ (a : n ≡ 16). omega (arith, a)) (λ (o : (n ≡ 28) ⊎ (n ≡ 31)). ⊎_elim (λ (b : n ≡ 28). omega (arith, b)) (λ (b : n ≡ 31). omega (arith, b)) o) p
