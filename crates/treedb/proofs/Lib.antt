@@ -1,8 +1,5 @@
 pub mod LineLemmas
 pub mod ReadingLemmas
-pub mod OfferLemmas
-pub mod PairLemmas
-pub mod AgreeLemmas
 pub mod RunLemmas
 pub mod NewLemmas
 pub mod Parts

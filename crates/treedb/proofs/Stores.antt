@@ -28,7 +28,7 @@ use Rattle.trace_csv.specs.declared.report.Stats.{Stats}
 use Rattle.command_line.specs.declared.outcome.Choice.{Choice}
 use Rattle.treedb.specs.Answered.{CountsOf}
 use Rattle.treedb.specs.Filling.{AreInserted}
-use Rattle.treedb.specs.Offered.{flag_count}
+use Rattle.treedb.specs.Chosen.{flag_count}
 use Rattle.treedb.specs.ReadBack.{IsReadBack, IsReadBy, new_id, new_ids}
 use Rattle.treedb.specs.Stored.{Counts, AreTold, NodesAreNamed, InStore}
 use Rattle.treedb.specs.declared.distinct.ReadBack.{ReadBack}

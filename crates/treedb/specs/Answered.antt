@@ -10,7 +10,7 @@ use Rattle.pair_rule.specs.declared.sizes.About.{About}
 use Rattle.trace_csv.specs.declared.report.Stats.{Stats}
 use Rattle.command_line.specs.declared.outcome.Choice.{Choice}
 use Rattle.treedb.specs.declared.fill.Answered.{Answered}
-use Rattle.treedb.specs.Offered.{flag_count}
+use Rattle.treedb.specs.Chosen.{flag_count}
 use Rattle.treedb.specs.ReadBack.{IfPrinted, IsReadBack}
 use Rattle.treedb.specs.Run.{IsOfMode}
 

@@ -1,7 +1,6 @@
-pub mod Offered
+pub mod Chosen
 pub mod Lines
 pub mod Check
-pub mod Pairs
 pub mod Stored
 pub mod ReadBack
 pub mod Run

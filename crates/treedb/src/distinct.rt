@@ -1,7 +1,7 @@
-//! The job `distinct`: the lines of the input are inserted, and the vectors that were answered new are
-//! written, read back from the store by their identifiers, in rising list order.
+//! What the job `distinct` writes: the vectors that were answered new, read back from the store by their
+//! identifiers, in rising list order.
 ghost use Rattle.std.specs.Prelude.{◌≡◌, ◌+◌, ◌*◌, ◌++◌, ◌∷◌, ◌≤◌, ◌<◌, ◌^◌, [], ℕ, All, IfOk, IfSome, List};
-ghost use Rattle.std.specs.Prelude.{Some, true, IsPermutation, drop, length, map, slice_get, take};
+ghost use Rattle.std.specs.Prelude.{Some, IsPermutation, drop, length, map, slice_get, take};
 ghost use Rattle.std.specs.Prelude.{vec_capacity};
 ghost use Rattle.std.specs.List.Sorted.{IsSortedByKey};
 ghost use Rattle.tdb_base.specs.History.{name_of};
@@ -12,20 +12,12 @@ ghost use Rattle.trace_csv.specs.Vectors.{vector_at as vector_of_number};
 ghost use Rattle.treedb.specs.ReadBack.{Adds, AwaitsLines, HasRoomFor, IfPrinted, IsCounted, IsReadBy};
 ghost use Rattle.treedb.specs.ReadBack.{KeepsRoom, ReadsInto, new_id, new_ids, vectors};
 ghost use Rattle.tree_store.specs.Store.{Advanced};
-ghost use Rattle.command_line.specs.Valid.{IsValid};
-ghost use Rattle.treedb.specs.Offered.{is_offered};
-ghost use Rattle.treedb.specs.Outcome.{EndsAs};
 
-use crate::ended::Ended;
-use crate::fill::insert_lines;
-use crate::input::read_lines;
-use crate::output::write_distinct;
-use command_line::{Choice, Job};
+use command_line::Job;
 use pair_nodes::RootNames;
 use pair_rule::Pass;
 use std::alloc::Global;
-use std::thread::Threads;
-use tdb_base::{Gate, NoMemory, Reply, Sink, Source};
+use tdb_base::{NoMemory, Reply};
 use tree_store::{TreeStore, read_vector};
 
 /// Vectors of so many slots that stand one after the other, and their numbers in the order in which they are
@@ -255,34 +247,4 @@ pub fn read_back<N: RootNames<W, F>, const W: u32, const F: u32>(
         Some(back) => Some(back.fill(names, store, pass, replies)),
         None => None,
     }
-}
-
-/// Inserts the lines of the source, and writes the vectors that got a name, each once, in rising list order.
-pub fn distinct<R: Threads + Sync, S: Source, K: Sink, G: Gate>(
-    rt: &R,
-    alloc: Global,
-    choice: &Choice,
-    source: &mut S,
-    sink: &mut K,
-    gate: &G,
-) -> Ended
-    requires valid { IsValid choice.now }
-    requires offered { is_offered choice.now ≡ true }
-    requires job { choice.now.job ≡ Job.Distinct }
-    ensures { EndsAs (Some choice.now)
-        (record { left = S.left; faults = S.faults; old = source.old; new = source.new })
-        (record { taken = K.taken; faults = K.faults; settled = K.settled; old = sink.old; new = sink.new })
-        result }
-{
-    let trace = match read_lines(alloc, choice, source) {
-        Ok(trace) => trace,
-        Err(ended) => return ended,
-    };
-    let Ok(answered) = insert_lines(rt, alloc, choice, &trace, gate) else {
-        return Ended::NoMemory;
-    };
-    let Some(vectors) = &answered.vectors else {
-        unreachable!()
-    };
-    write_distinct(vectors, &answered.replies, sink)
 }

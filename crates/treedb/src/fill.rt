@@ -1,30 +1,31 @@
 //! The lines of a trace are inserted into a new store, and what is told of them is gathered.
-ghost use Rattle.std.specs.Prelude.{◌≡◌, ◌≤◌, ◌<◌, ◌^◌, All, IfOk, OnErr, false, length, true};
+ghost use Rattle.std.specs.Prelude.{◌≡◌, ◌≤◌, ◌<◌, ◌^◌, All, IfOk, OnErr, length};
 ghost use Rattle.packed_word.specs.Word.{IsLayout};
 ghost use Rattle.pair_rule.specs.Rest.{AtRest};
+ghost use Rattle.region_root.specs.Compact.{compact};
 ghost use Rattle.root_plain.specs.Plain.{plain};
 ghost use Rattle.work_run.specs.Workers.{Unused};
 ghost use Rattle.command_line.specs.Valid.{IsValid};
-ghost use Rattle.treedb.specs.Lines.{takes_lines};
-ghost use Rattle.treedb.specs.Offered.{flag_count, is_check, is_offered};
+ghost use Rattle.treedb.specs.Chosen.{flag_count};
 ghost use Rattle.treedb.specs.Answered.{AreAnswered};
 ghost use Rattle.treedb.specs.Filling.{AreInserted, AwaitsTrace, IsPartFor};
 ghost use Rattle.treedb.specs.ReadBack.{AwaitsLines, IfPrinted};
 
 use crate::distinct::{ReadBack, read_back};
-use crate::pairs::insert_pairs;
 use crate::stats::stats_of;
 use crate::store::make_ready;
 use command_line::{Choice, Mode};
 use pair_nodes::RootNames;
 use pair_rule::Pass;
+use region_root::{CompactRoot, CompactTable};
 use root_plain::{PlainRoot, PlainTable};
 use std::alloc::Global;
+use std::sync::Wait;
 use std::thread::Threads;
 use tdb_base::{Gate, NoMemory, Reply};
 use trace_csv::{Stats, Trace};
-use tree_store::{PlainPass, PlainStore, TreeStore};
-use work_run::run_lines;
+use tree_store::{CompactPass, CompactStore, PlainPass, PlainStore, TreeStore};
+use work_run::{run_lines, run_lines_waiting};
 
 /// The reply to each line, the counts of the store, if they are asked for, and the vectors that were answered
 /// new, if the job prints them.
@@ -114,34 +115,64 @@ fn insert_plain<R: Threads + Sync, G: Gate, const W: u32, const F: u32>(
     fill_plain(rt, alloc, &store, &mut pass, choice, trace, room, gate)
 }
 
-// Inserts the lines into a set of pairs, as compact mode does as yet.
-fn insert_into_set<G: Gate>(
+// Inserts the lines into a compact store that awaits them, and may wait for the locks of its regions. After
+// `NoMemory` no line was inserted.
+fn fill_compact<R: Threads + Wait + Sync, G: Gate, const W: u32, const F: u32>(
+    rt: &R,
+    alloc: Global,
+    store: &CompactStore<W, F>,
+    pass: &mut CompactPass<W, F>,
+    choice: &Choice,
+    trace: &Trace,
+    room: Option<ReadBack>,
+    gate: &G,
+) -> Result<Answered, NoMemory>
+    requires valid { IsValid choice.now }
+    requires of_mode { IsPartFor (compact W F) choice.now }
+    requires ready { AwaitsTrace (compact W F) choice.now trace.now store.now pass.old room }
+    ensures answered { IfOk result (AreAnswered choice.now trace.now) }
+    ensures refused { OnErr result (Unused pass.old pass.new) }
+{
+    let replies = run_lines_waiting(
+        rt,
+        alloc,
+        store,
+        pass,
+        trace,
+        choice.workers,
+        choice.block,
+        gate,
+    )?;
+    let names = CompactTable::over(&(), store.nodes());
+    Ok(complete_replies(&names, store, pass, choice, trace, replies, room))
+}
+
+// Inserts the lines into a new compact store of this profile.
+fn insert_compact<R: Threads + Wait + Sync, G: Gate, const W: u32, const F: u32>(
+    rt: &R,
     alloc: Global,
     choice: &Choice,
     trace: &Trace,
     gate: &G,
 ) -> Result<Answered, NoMemory>
     requires valid { IsValid choice.now }
-    requires offered { is_offered choice.now ≡ true }
-    requires inserts { is_check choice.now.job ≡ false }
     requires compact { choice.now.mode ≡ Mode.Compact }
-    requires below { All (λ line. All (λ n. n < 2 ^ choice.now.profile) line) trace.now }
-    requires taken { takes_lines choice.now trace.now ≡ true }
+    requires profile { (choice.now.profile ≡ W) × (F ≡ flag_count W) }
+    requires layout { IsLayout W F }
+    requires lines { length trace.now ≤ 2 ^ 32 }
+    requires below { All (λ line. All (λ n. n < 2 ^ W) line) trace.now }
     ensures { IfOk result (AreAnswered choice.now trace.now) }
 {
-    Ok(Answered {
-        replies: insert_pairs(alloc, trace, choice.profile, gate)?,
-        stats: None,
-        vectors: None,
-    })
+    let (store, mut pass, room) = make_ready::<CompactRoot<W, F>, W, F>(alloc, choice, trace)?;
+    fill_compact(rt, alloc, &store, &mut pass, choice, trace, room, gate)
 }
 
-/// Inserts the lines of a trace into a new store of the choice's mode, profile and sizes: the reply to each
+/// Inserts the lines of a trace into a new plain store of the choice's profile and sizes: the reply to each
 /// line, the store's counts if they are asked for, and for `distinct` the vectors that were answered new,
-/// each read back by its identifier.
+/// each read back by its identifier. It waits for nobody.
 ///
-/// In plain mode `NoMemory` comes before the first line is inserted: that is told where the store is in hand,
-/// and no clause here can say it.
+/// `NoMemory` comes before the first line is inserted: that is told where the store is in hand, and no clause
+/// here can say it.
 pub fn insert_lines<R: Threads + Sync, G: Gate>(
     rt: &R,
     alloc: Global,
@@ -150,19 +181,35 @@ pub fn insert_lines<R: Threads + Sync, G: Gate>(
     gate: &G,
 ) -> Result<Answered, NoMemory>
     requires valid { IsValid choice.now }
-    requires offered { is_offered choice.now ≡ true }
-    requires inserts { is_check choice.now.job ≡ false }
+    requires plain { choice.now.mode ≡ Mode.Plain }
     requires lines { length trace.now ≤ 2 ^ 32 }
     requires below { All (λ line. All (λ n. n < 2 ^ choice.now.profile) line) trace.now }
-    requires taken { takes_lines choice.now trace.now ≡ true }
     ensures { IfOk result (AreAnswered choice.now trace.now) }
 {
-    if choice.mode == Mode::Compact {
-        return insert_into_set(alloc, choice, trace, gate);
-    }
     match choice.profile {
         16 => insert_plain::<R, G, 16, 8>(rt, alloc, choice, trace, gate),
         28 => insert_plain::<R, G, 28, 7>(rt, alloc, choice, trace, gate),
         _ => insert_plain::<R, G, 31, 1>(rt, alloc, choice, trace, gate),
+    }
+}
+
+/// The same over a compact store, but workers may wait for the locks of its regions.
+pub fn insert_lines_waiting<R: Threads + Wait + Sync, G: Gate>(
+    rt: &R,
+    alloc: Global,
+    choice: &Choice,
+    trace: &Trace,
+    gate: &G,
+) -> Result<Answered, NoMemory>
+    requires valid { IsValid choice.now }
+    requires compact { choice.now.mode ≡ Mode.Compact }
+    requires lines { length trace.now ≤ 2 ^ 32 }
+    requires below { All (λ line. All (λ n. n < 2 ^ choice.now.profile) line) trace.now }
+    ensures { IfOk result (AreAnswered choice.now trace.now) }
+{
+    match choice.profile {
+        16 => insert_compact::<R, G, 16, 8>(rt, alloc, choice, trace, gate),
+        28 => insert_compact::<R, G, 28, 7>(rt, alloc, choice, trace, gate),
+        _ => insert_compact::<R, G, 31, 1>(rt, alloc, choice, trace, gate),
     }
 }
