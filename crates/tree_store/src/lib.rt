@@ -16,6 +16,7 @@ mod tree;
 mod unfold;
 
 pub use compact::{CompactPass, CompactStore};
+pub use counts::{raw_bytes_of, stored_bytes_of};
 pub use create::CreateError;
 pub use insert::insert_from_last;
 pub use plain::{PlainPass, PlainStore};

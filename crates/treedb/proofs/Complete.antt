@@ -15,10 +15,9 @@ use Rattle.command_line.specs.declared.outcome.Job.TheVariants.{Insert, Distinct
 use Rattle.command_line.specs.declared.outcome.Choice.{Choice}
 use Rattle.treedb.specs.Check.{IsInput}
 use Rattle.treedb.specs.Lines.{HasNoTrace, IsTraceText, read_lines}
-use Rattle.treedb.specs.Offered.{is_check}
 use Rattle.treedb.specs.Outcome.{HasNoReport, IsComplete, IsValidInput, Outcome, SinkStep, SourceStep}
 use Rattle.treedb.specs.Run.{GivesWithin, is_printed}
-use Rattle.treedb.proofs.LineLemmas.{lines_read, takes_checked}
+use Rattle.treedb.proofs.LineLemmas.{lines_read}
 
 -- what a source gave is no more than it told
 gave_few : (bytes : List ℕ) (new : Option (List ℕ)) (gave : List ℕ) → Consumes (Some bytes) new gave → length gave ≤ length bytes
@@ -34,7 +33,7 @@ valid_trace c bytes Check is valid text cut none =
     let input = valid.2 in
     let place : cut.1.place ≡ input.has_trace.cut.place = least-same (IsCut bytes) cut.1.place input.has_trace.cut.place cut.1.first input.has_trace.cut.first in
     let same : input.has_trace.text ≡ text = input.has_trace.cut.text_is ∙ ap (λ (n : ℕ). take n bytes) (sym place) ∙ sym cut.1.text_is in
-    let lines = lines_read c input.has_trace.text valid.0 input.has_trace.lines (takes_checked c valid.0 (ap is_check is)) in
+    let lines = lines_read c input.has_trace.text valid.0 input.has_trace.lines in
     let other = ap (λ (x : List ℕ). read_lines c x) same ∙ none in
     cc (lines, other)
 

@@ -1,8 +1,12 @@
 -- From the end of a run and its note to all that the run leaves.
-use Rattle.std.proofs.Common.{◌≡◌, true, false, Option, subst, sym, ap, ◌∙◌}
+use Rattle.std.proofs.Common.{◌≡◌, true, false, List, Option, Some, refl, subst, sym, ap, ◌∙◌}
 use Rattle.tdb_base.specs.Causes.{Rose}
 use Rattle.tdb_base.specs.declared.reply.Status.{Status}
+use Rattle.clap.specs.Words.{Text}
+use Rattle.command_line.specs.Choose.{chosen}
+use Rattle.command_line.specs.declared.outcome.Mode.TheVariants.{Plain}
 use Rattle.command_line.specs.declared.outcome.Choice.{Choice}
+use Rattle.treedb.specs.Chosen.{chosen_plain}
 use Rattle.treedb.specs.Note.{has_note, status_of}
 use Rattle.treedb.specs.Outcome.{EndsAs, IsNoted, Outcome, RunEnds, SinkStep, SourceStep}
 use Rattle.treedb.specs.declared.ended.Ended.{Ended}
@@ -22,7 +26,11 @@ run_ends offer source sink notes ended status ends is noted settled none = recor
   no_note = λ silent. none (sym (ap has_note is) ∙ silent);
 }
 
--- the same end, of a run of another offer that is the same
+-- words that choose plain mode
+pub plain_chosen : (words : List Text) (c : Choice) → chosen words ≡ Some c → c.mode ≡ Plain → chosen_plain words ≡ Some c
+plain_chosen words c chose mode = rw (chose, mode) refl
+
+-- the same end, of a run of another choice that is the same
 pub ends_for : {S K : Type 0} {source : SourceStep S} {sink : SinkStep K} {ended : Ended} (some other : Option Choice)
     → some ≡ other → EndsAs some source sink ended → EndsAs other source sink ended
 ends_for {source = source} {sink = sink} {ended = ended} some other same = subst (λ (o : Option Choice). EndsAs o source sink ended) same

@@ -1,12 +1,10 @@
 pub mod LineLemmas
 pub mod ReadingLemmas
-pub mod OfferLemmas
-pub mod PairLemmas
-pub mod AgreeLemmas
 pub mod RunLemmas
+pub mod NewLemmas
+pub mod Parts
 pub mod Stores
 pub mod Outcomes
 pub mod ReadBackLemmas
-pub mod NewLemmas
 pub mod Complete
 pub mod Ending

@@ -11,13 +11,13 @@ use Rattle.tdb_base.specs.Replies.{is_full}
 use Rattle.tdb_base.specs.declared.reply.Reply.{Reply}
 use Rattle.tdb_base.specs.declared.reply.Status.{Status}
 use Rattle.tdb_base.specs.declared.reply.Status.TheVariants as s
-use Rattle.trace_csv.proofs.InputLemmas.{consumes-none}
 use Rattle.trace_csv.proofs.OneReportLemmas.{one-report}
 use Rattle.trace_csv.specs.Input.{limit}
 use Rattle.trace_csv.specs.OneReport.{HasWordId}
 use Rattle.trace_csv.specs.Report.{report, summary_of}
 use Rattle.trace_csv.specs.Output.{TakesFront}
 use Rattle.trace_csv.specs.Trace.{Unsigned, trace_of}
+use Rattle.trace_csv.specs.declared.refusal.TraceError.{TraceError}
 use Rattle.trace_csv.specs.declared.report.Stats.{Stats}
 use Rattle.run_check.specs.Cut.{IsCut, IsWhole}
 use Rattle.run_check.specs.Text.{IsReportOf}
@@ -29,14 +29,15 @@ use Rattle.command_line.specs.declared.outcome.Choice.{Choice}
 use Rattle.treedb.specs.Check.{HasTrace, IsWrongInput, Judged, PrintsVerdict, PrintsVerdictFront, WritesVerdict, ended_with_verdict, verdict_text}
 use Rattle.treedb.specs.Lines.{HasNoTrace, IsTraceFor, is_reader}
 use Rattle.treedb.specs.Note.{status_of}
-use Rattle.treedb.specs.Offered.{flag_count, is_check}
+use Rattle.treedb.specs.Answered.{AreAnswered}
+use Rattle.treedb.specs.Chosen.{flag_count, is_check}
 use Rattle.treedb.specs.Outcome.{EndsAs, HasNoReport, IsDetail, SinkStep, SourceStep}
 use Rattle.treedb.specs.Reading.{EndsReading, GaveWithin, IsBadTrace, ReadsToEnd}
 use Rattle.treedb.specs.Run.{GivesWithin, IsOfMode, IsText, Prints, PrintsFront, Run, TellsOnly, is_printed, reads_to_end}
-use Rattle.treedb.specs.Writing.{WritesText, ended_with, ended_with_full}
+use Rattle.treedb.specs.Writing.{WritesAnswered, WritesText, ended_with, ended_with_full}
+use Rattle.treedb.specs.declared.fill.Answered.{Answered}
 use Rattle.treedb.specs.declared.ended.Ended.{Ended}
 use Rattle.treedb.specs.declared.ended.Ended.TheVariants as e
-use Rattle.treedb.specs.declared.ended.Refusal.{Refusal}
 use Rattle.treedb.proofs.LineLemmas.{none_read}
 use Rattle.treedb.proofs.ReadingLemmas.{if_some}
 
@@ -62,8 +63,8 @@ wrong_none c bytes line wrong trace replies input =
     (subst (λ (r : List ℕ). IsReportOf (length trace) r replies) same.1 input.is_report))
 
 -- bytes whose trace is refused have no lines
-bad_none : (c : Choice) (refusal : Refusal) (bytes : List ℕ) → IsBadTrace c bytes refusal → HasNoTrace c bytes
-bad_none c refusal bytes bad = (bad.0, bad.1, none_read c bad.0 refusal bad.2)
+bad_none : (c : Choice) (error : TraceError) (bytes : List ℕ) → IsBadTrace c bytes error → HasNoTrace c bytes
+bad_none c error bytes bad = (bad.0, bad.1, none_read c bad.0 error bad.2)
 
 module _ {S K : Type 0} (c : Choice) (source : SourceStep S) (sink : SinkStep K) where
   -- a run that wrote nothing
@@ -112,45 +113,36 @@ module _ {S K : Type 0} (c : Choice) (source : SourceStep S) (sink : SinkStep K)
     too_much = (λ t. g.too_much.0 (there t), λ t. back (g.too_much.1 t));
   }
 
+  pub has_input : {T : Type 0} (input : T) (result : Result T Ended) → result ≡ Ok input → GaveWithin (source.left source.old) (source.left source.new) result
+      → (is_reader c.job ≡ true → IsAtEnd (source.left source.new)) → (is_reader c.job ≡ false → source.new ≡ source.old) → HasInput
+  has_input input result is gave end drawn = record {
+    within = λ status other. gives result status gave (λ t. absurd (other t)) (λ t. cc (t, is));
+    at_end = end;
+    drawn = drawn;
+  }
+
   pub has_read : {T : Type 0} (input : T) (result : Result T Ended) → result ≡ Ok input → GaveWithin (source.left source.old) (source.left source.new) result
       → IsAtEnd (source.left source.new) → is_reader c.job ≡ true → HasInput
-  has_read input result is gave end reads = record {
-    within = λ status other. gives result status gave (λ t. absurd (other t)) (λ t. cc (t, is));
-    at_end = λ r. end;
-    drawn = λ r. cc (r, reads);
-  }
-
-  pub has_drawn : source.new ≡ source.old → is_reader c.job ≡ false → HasInput
-  has_drawn unread draws = record {
-    within = λ status other. record {
-      gave = [];
-      given = subst (λ (x : S). Consumes (source.left source.old) (source.left x) []) (sym unread) (consumes-none (source.left source.old));
-      too_much = (λ t. absurd (other t), λ (less : limit < 0). absurd (omega (arith, less)));
-    };
-    at_end = λ r. cc (r, draws);
-    drawn = λ r. unread;
-  }
+  has_read input result is gave end reads = has_input input result is gave (λ r. end) (λ r. cc (r, reads))
 
   -- a run whose input is refused, or can't be had
-  pub stopped : {T : Type 0} (ended : Ended) (result : Result T Ended) → result ≡ Err ended → sink.new ≡ sink.old → is_reader c.job ≡ true
+  pub stopped : {T : Type 0} (ended : Ended) (result : Result T Ended) → result ≡ Err ended → sink.new ≡ sink.old
       → EndsReading c (source.left source.old) ended → GaveWithin (source.left source.old) (source.left source.new) result
-      → (result ≡ Err e.ReadFault → Rose (source.faults source.old) (source.faults source.new)) → (ReadsToEnd result → IsAtEnd (source.left source.new)) → EndsAs (Some c) source sink ended
-  stopped {T = T} ended result is same reads ends gave fault at_end = by ended is ends
+      → (result ≡ Err e.ReadFault → Rose (source.faults source.old) (source.faults source.new)) → (is_reader c.job ≡ true → ReadsToEnd result → IsAtEnd (source.left source.new))
+      → (is_reader c.job ≡ false → source.new ≡ source.old) → EndsAs (Some c) source sink ended
+  stopped {T = T} ended result is same ends gave fault at_end drawn = by ended is ends
     where
-      drawn : is_reader c.job ≡ false → source.new ≡ source.old
-      drawn no_reader = cc (no_reader, reads)
-
       by : (ended : Ended) → result ≡ Err ended → EndsReading c (source.left source.old) ended → EndsAs (Some c) source sink ended
-      by (e.BadTrace refusal) is ends =
-          quiet (e.BadTrace refusal) refl (λ w. cc w) (λ u. cc u) same drawn (λ r. cc r) (gives result s.BadTrace gave (λ t. cc t) (λ t. cc (t, is)))
-          (λ b. if_some (source.left source.old) (bad_none c refusal) ends) (λ b. cc b) (λ t r. at_end (subst (λ (x : Result T Ended). ReadsToEnd x) (sym is) tt)) ends
+      by (e.BadTrace error) is ends =
+          quiet (e.BadTrace error) refl (λ w. cc w) (λ u. cc u) same drawn (λ r. cc r) (gives result s.BadTrace gave (λ t. cc t) (λ t. cc (t, is)))
+          (λ b. if_some (source.left source.old) (bad_none c error) ends) (λ b. cc b) (λ t r. at_end r (subst (λ (x : Result T Ended). ReadsToEnd x) (sym is) tt)) ends
       by e.NoReport is ends =
           quiet e.NoReport refl (λ w. cc w) (λ u. cc u) same drawn (λ r. cc r) (gives result s.BadReport gave (λ t. cc t) (λ t. cc (t, is)))
-          (λ b. cc b) (λ b. (ends.0, if_some (source.left source.old) (whole_none c) ends.1)) (λ t r. at_end (subst (λ (x : Result T Ended). ReadsToEnd x) (sym is) tt)) ends
+          (λ b. cc b) (λ b. (ends.0, if_some (source.left source.old) (whole_none c) ends.1)) (λ t r. at_end r (subst (λ (x : Result T Ended). ReadsToEnd x) (sym is) tt)) ends
       by (e.WrongReport line) is ends =
           quiet (e.WrongReport line) refl (λ w. cc w) (λ u. cc u) same drawn (λ r. cc r) (gives result s.BadReport gave (λ t. cc t) (λ t. cc (t, is)))
           (λ b. cc b) (λ b. (ends.0, if_some (source.left source.old) (λ bytes wrong. wrong_none c bytes line wrong) ends.1))
-          (λ t r. at_end (subst (λ (x : Result T Ended). ReadsToEnd x) (sym is) tt)) ends
+          (λ t r. at_end r (subst (λ (x : Result T Ended). ReadsToEnd x) (sym is) tt)) ends
       by e.NoMemory is ends =
           quiet e.NoMemory refl (λ w. cc w) (λ u. cc u) same drawn (λ r. cc r) (gives result s.NoMemory gave (λ t. cc t) (λ t. cc (t, is))) (λ b. cc b) (λ b. cc b) (λ t. cc t) tt
       by e.TooMuch is ends =
@@ -312,6 +304,14 @@ module _ {S K : Type 0} (c : Choice) (source : SourceStep S) (sink : SinkStep K)
         subst (λ (x : Ended). EndsAs (Some c) source sink x) (sym w.1)
         (broken_end (λ other. record { run = run_of; text = text; is_text = writes; taken = w.0 }) (λ checks. absurd (inserts checks)) (fault w.1)))
         wrote
+
+  -- a run that wrote what its lines were answered
+  pub answered_end : (trace : List Vector) (answered : Answered) (are : AreAnswered c trace answered) → is_check c.job ≡ false → 0 < c.workers
+      → IsTraceFor c (source.left source.old) c.job trace → (ended : Ended) → WritesAnswered c answered are.history sink ended → EndsAs (Some c) source sink ended
+  answered_end trace answered are inserts some read ended wrote =
+      written trace answered.replies.items answered.stats are.history
+      (record { inserts = inserts; some = some; read = read; agrees = are.agrees; of_mode = are.of_mode })
+      wrote.text wrote.is_text ended wrote.written wrote.only wrote.settled wrote.fault
 
   module _ (checks : is_check c.job ≡ true) (verdict : Verdict) (judged : Judged c (source.left source.old) verdict) where
     others : is_check c.job ≡ false → ⊥

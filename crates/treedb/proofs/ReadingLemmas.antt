@@ -1,9 +1,15 @@
 -- An input that was read, and what is made of its bytes.
-use Rattle.std.proofs.Common.{◌≡◌, ℕ, List, Option, Some, None, subst}
+use Rattle.std.proofs.Common.{◌≡◌, ◌<◌, ℕ, List, [], Option, Some, None, subst, sym, ap, arith}
 use Rattle.std.specs.Prelude.{IfErr, IfOk, IfSome, Result, Ok, Err}
 use Rattle.run_check.specs.Cut.{IsWhole}
 use Rattle.run_check.specs.declared.verdict.Verdict.{Verdict}
 use Rattle.command_line.specs.declared.outcome.Choice.{Choice}
+use Rattle.command_line.specs.declared.outcome.Job.{Job}
+use Rattle.command_line.specs.declared.outcome.Job.TheVariants.{Bench}
+use Rattle.tdb_base.specs.History.{Vector}
+use Rattle.trace_csv.specs.Input.{limit}
+use Rattle.trace_csv.proofs.InputLemmas.{consumes-none}
+use Rattle.treedb.specs.Lines.{IsTraceFor, drawn_lines}
 use Rattle.treedb.specs.Check.{IsInput, IsWrongInput, Judged}
 use Rattle.treedb.specs.Reading.{EndsReading, GaveWithin, IsBadTrace, RefusesInput}
 use Rattle.treedb.specs.declared.ended.Ended.{Ended}
@@ -28,7 +34,7 @@ module _ {T : Type 0} (c : Choice) (bytes : List ℕ) (result : Result T Ended) 
 
 -- they are all that the source told
 pub ends_reading : (c : Choice) (told : Option (List ℕ)) (bytes : List ℕ) → IfSome told (λ b. bytes ≡ b) → (ended : Ended) → RefusesInput c bytes ended → EndsReading c told ended
-ends_reading c told bytes all (e.BadTrace refusal) r = if_some told (λ b is. subst (λ (x : List ℕ). IsBadTrace c x refusal) is r) all
+ends_reading c told bytes all (e.BadTrace error) r = if_some told (λ b is. subst (λ (x : List ℕ). IsBadTrace c x error) is r) all
 ends_reading c told bytes all e.NoReport r = (r.0, if_some told (λ b is. subst (λ (x : List ℕ). IsWhole x) is r.1) all)
 ends_reading c told bytes all (e.WrongReport line) r = (r.0, if_some told (λ b is. subst (λ (x : List ℕ). IsWrongInput c x line) is r.1) all)
 ends_reading c told bytes all e.NoMemory r = r
@@ -58,3 +64,31 @@ pub judged_result : (c : Choice) (told : Option (List ℕ)) (bytes : List ℕ) (
     → IfOk result (Judged c told)
 judged_result c told bytes (Ok verdict) all judged = judged_all c told bytes verdict all judged
 judged_result c told bytes (Err ended) all judged = judged
+
+-- what is told of a result's value, told otherwise
+pub if_ok : {T E : Type 0} {P Q : T → Type 0} (result : Result T E) → ((x : T) → P x → Q x) → IfOk result P → IfOk result Q
+if_ok (Ok x) f p = f x p
+if_ok (Err error) f p = p
+
+-- lines that are drawn: the source gives nothing, and only memory can be wanting
+module _ {T : Type 0} (told : Option (List ℕ)) (result : Result T Ended) (refused : IfErr result (λ ended. ended ≡ e.NoMemory)) where
+  no_other_end : (ended : Ended) → result ≡ Err ended → ended ≡ e.NoMemory
+  no_other_end ended is = subst (λ (r : Result T Ended). IfErr r (λ x. x ≡ e.NoMemory)) is refused
+
+  pub drawn_gave : GaveWithin told told result
+  drawn_gave = record {
+    gave = [];
+    given = consumes-none told;
+    too_much = (λ t. (let no = no_other_end e.TooMuch t in cc no), λ (less : limit < 0). absurd (omega (arith, less)));
+  }
+
+  pub drawn_no_fault : result ≡ Err e.ReadFault → ⊥
+  drawn_no_fault is = (let no = no_other_end e.ReadFault is in cc no)
+
+pub drawn_refused : {T : Type 0} (c : Choice) (told : Option (List ℕ)) (result : Result T Ended) → IfErr result (λ ended. ended ≡ e.NoMemory) → IfErr result (EndsReading c told)
+drawn_refused c told (Ok x) refused = refused
+drawn_refused c told (Err ended) refused = subst (λ (x : Ended). EndsReading c told x) (sym refused) tt
+
+pub drawn_trace : (c : Choice) (told : Option (List ℕ)) (result : Result (List Vector) Ended) → c.job ≡ Bench → IfOk result (λ trace. trace ≡ drawn_lines c)
+    → IfOk result (IsTraceFor c told c.job)
+drawn_trace c told result job = if_ok result (λ trace is. subst (λ (j : Job). IsTraceFor c told j trace) (sym job) is)

@@ -6,7 +6,7 @@ use Rattle.tdb_base.specs.Legal.{KeepsNames}
 use Rattle.tdb_base.proofs.HeadlineLemmas.{counts-distinct, counts-names, different-lines, each-new-once, equal-lines}
 use Rattle.tdb_base.proofs.NameLemmas.{keeps-names}
 use Rattle.command_line.specs.declared.outcome.Choice.{Choice}
-use Rattle.treedb.specs.Offered.{flag_count}
+use Rattle.treedb.specs.Chosen.{flag_count}
 use Rattle.command_line.specs.declared.outcome.Job.{Job}
 use Rattle.command_line.specs.declared.outcome.Job.TheVariants.{Distinct}
 use Rattle.treedb.specs.Run.{Headline, IsText, IsTextOf, PrintsTheLines, Run}

@@ -1,35 +1,23 @@
--- What the lines of a trace are answered in plain mode.
+-- What the lines of a trace are answered.
 use Rattle.std.specs.Prelude.{◌≡◌, ◌+◌, ◌*◌, ℕ, List, [], length}
 use Rattle.std.specs.List.{range_with_len}
 use Rattle.tdb_base.specs.Agrees.{Agrees}
 use Rattle.tdb_base.specs.History.{Vector, History}
+use Rattle.pair_rule.specs.Part.{Part}
 use Rattle.pair_rule.specs.Rest.{names_of_callers}
 use Rattle.pair_rule.specs.declared.view.View.{View}
 use Rattle.pair_rule.specs.declared.sizes.About.{About}
-use Rattle.pair_rule.specs.declared.sizes.Sizes.{Sizes}
-use Rattle.root_plain.specs.declared.root.Roots.{Roots}
 use Rattle.trace_csv.specs.declared.report.Stats.{Stats}
-use Rattle.command_line.specs.Sizes.{AreTableSizes}
 use Rattle.command_line.specs.declared.outcome.Choice.{Choice}
-use Rattle.command_line.specs.declared.table.TableSizes.{TableSizes}
-use Rattle.treedb.specs.declared.store.Answered.{Answered}
-use Rattle.treedb.specs.Offered.{flag_count}
+use Rattle.treedb.specs.declared.fill.Answered.{Answered}
+use Rattle.treedb.specs.Chosen.{flag_count}
 use Rattle.treedb.specs.ReadBack.{IfPrinted, IsReadBack}
 use Rattle.treedb.specs.Run.{IsOfMode}
 
--- the sizes of a store are those of a choice, for so many lines of so many slots
-pub record AreSizesOf (c : Choice) (slots lines : ℕ) (store : Sizes) : Type 0 where
-  pub sizes : TableSizes
-  pub are_sizes : AreTableSizes c slots lines sizes
-  pub nodes : store.nodes ≡ sizes.nodes
-  pub roots : store.roots ≡ sizes.roots
-  pub region : store.region ≡ sizes.region
-  pub probe : store.probe ≡ sizes.probe
-
 -- the counts that a pass tells
-pub record CountsOf (about : About) (v : View Roots) (stats : Stats) : Type 0 where
+pub record CountsOf {T : Type 0} (part : Part T) (about : About) (v : View T) (stats : Stats) : Type 0 where
   pub nodes : stats.nodes ≡ length v.made
-  pub stored : stats.stored ≡ 8 * length v.made + 8 * names_of_callers v.numbers v.seen
+  pub stored : stats.stored ≡ 8 * length v.made + part.bytes about (names_of_callers v.numbers v.seen)
   pub raw : stats.raw ≡ 4 * about.slots * names_of_callers v.numbers v.seen
 
 -- the replies to the lines form one history of workers who are numbered from 0, what the mode keeps stands

@@ -1,11 +1,11 @@
-pub mod Offered
+pub mod Chosen
 pub mod Lines
 pub mod Check
-pub mod Pairs
 pub mod Stored
 pub mod ReadBack
-pub mod Answered
 pub mod Run
+pub mod Answered
+pub mod Filling
 pub mod Note
 pub mod Reading
 pub mod Outcome

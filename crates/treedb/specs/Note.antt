@@ -7,14 +7,12 @@ use Rattle.trace_csv.specs.declared.refusal.TraceError.{TraceError}
 use Rattle.trace_csv.specs.declared.refusal.TraceError.TheVariants as t
 use Rattle.treedb.specs.declared.ended.Ended.{Ended}
 use Rattle.treedb.specs.declared.ended.Ended.TheVariants as e
-use Rattle.treedb.specs.declared.ended.Refusal.{Refusal}
-use Rattle.treedb.specs.declared.ended.Refusal.TheVariants as r
 
 -- the status that a run is answered
 abbrev pub status_of : Ended → Status
 status_of e.Done = s.Done
 status_of e.Usage = s.Usage
-status_of (e.BadTrace refusal) = s.BadTrace
+status_of (e.BadTrace error) = s.BadTrace
 status_of e.TooMuch = s.TooMuch
 status_of (e.Full lines) = s.Full
 status_of e.ReadFault = s.ReadFault
@@ -62,16 +60,11 @@ trace_text (t.Length row fields) =
 trace_text t.NoRecords = codes "treedb: no records\n"
 trace_text t.NoMemory = no_memory
 
--- why some bytes are no trace that the program takes
-abbrev pub refusal_text : Refusal → List ℕ
-refusal_text (r.Trace error) = trace_text error
-refusal_text r.NotPairs = codes "treedb: compact mode takes 2 slots\n"
-
 -- the note: what a run's end writes to standard error
 abbrev pub note_text : Ended → List ℕ
 note_text e.Done = []
 note_text e.Usage = usage
-note_text (e.BadTrace refusal) = refusal_text refusal
+note_text (e.BadTrace error) = trace_text error
 note_text e.TooMuch = codes "treedb: input is over 67108864 bytes\n"
 note_text (e.Full lines) = codes "treedb: " ++ decimal lines ++ codes " lines full\n"
 note_text e.ReadFault = codes "treedb: read fault\n"

@@ -13,7 +13,7 @@ use Rattle.command_line.specs.declared.outcome.Job.{Job}
 use Rattle.command_line.specs.declared.outcome.Job.TheVariants.{Insert, Distinct, Bench, Check}
 use Rattle.treedb.specs.Check.{IsInput, PrintsVerdict, PrintsVerdictFront}
 use Rattle.treedb.specs.Lines.{HasNoTrace, is_reader, read_lines}
-use Rattle.treedb.specs.Offered.{is_check}
+use Rattle.treedb.specs.Chosen.{is_check}
 use Rattle.trace_csv.specs.Input.{limit}
 use Rattle.trace_csv.specs.Output.{TakesFront}
 use Rattle.treedb.specs.Note.{has_note, note_text, status_of}
@@ -24,7 +24,7 @@ use Rattle.treedb.specs.declared.ended.Ended.TheVariants as e
 
 -- what is told beside the status: why the input is refused, and how many lines are full
 abbrev pub IsDetail : (offer : Option Choice) (told old new : Option (List ℕ)) → Ended → Type 0
-IsDetail offer told old new (e.BadTrace refusal) = IfSome offer (λ c. EndsReading c told (e.BadTrace refusal))
+IsDetail offer told old new (e.BadTrace error) = IfSome offer (λ c. EndsReading c told (e.BadTrace error))
 IsDetail offer told old new e.NoReport = IfSome offer (λ c. EndsReading c told e.NoReport)
 IsDetail offer told old new (e.WrongReport line) = IfSome offer (λ c. EndsReading c told (e.WrongReport line))
 IsDetail offer told old new e.Refuted = Unit {0}
@@ -64,7 +64,7 @@ IfChecks offer Fact = IfSome offer (λ c. is_check c.job ≡ true → Fact c)
 abbrev pub HasNoReport : Choice → List ℕ → Type 0
 HasNoReport c bytes = (trace : List Vector) (replies : List Reply) → IsInput c bytes trace replies → ⊥
 
--- a run of what is offered ended with this status, and left its source and its sink so
+-- a run of what the words choose ended with this status, and left its source and its sink so
 pub record Outcome {S K : Type 0} (offer : Option Choice) (source : SourceStep S) (sink : SinkStep K)
     (status : Status) : Type 0 where
   -- with `Done` or `Full` the sink took all of the text: that of replies to the lines, which form one history
@@ -97,7 +97,7 @@ pub record Outcome {S K : Type 0} (offer : Option Choice) (source : SourceStep S
   pub bad_report : status ≡ s.BadReport
       → IfSome offer (λ c. (c.job ≡ Check) × IfSome (source.left source.old) (HasNoReport c))
 
--- bytes that are a valid input: a trace that the choice takes, and for a check a report of its lines too
+-- bytes that are a valid input: a trace, and for a check a report of its lines too
 abbrev pub IsValidInput : Job → Choice → List ℕ → Type 0
 IsValidInput Insert c bytes = (lines : List Vector) × (read_lines c bytes ≡ Some lines)
 IsValidInput Distinct c bytes = (lines : List Vector) × (read_lines c bytes ≡ Some lines)
@@ -131,7 +131,7 @@ pub record IsNote {S K N : Type 0} (offer : Option Choice) (source : SourceStep 
   pub detail : IsDetail offer (source.left source.old) (sink.taken sink.old) (sink.taken sink.new) ended
   pub noted : IsNoted notes ended
 
--- all that a run of what is offered leaves
+-- all that a run of what the words choose leaves
 pub record RunEnds {S K N : Type 0} (offer : Option Choice) (source : SourceStep S) (sink : SinkStep K)
     (notes : SinkStep N) (status : Status) : Type 0 where
   -- with `Done` or `Full`, of each run whose text the sink took

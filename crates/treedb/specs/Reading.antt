@@ -1,35 +1,29 @@
 -- What reading an input leaves of its source, and why it is refused.
-use Rattle.std.specs.Prelude.{◌≡◌, ◌≢◌, ◌<◌, ◌↔◌, ℕ, false, List, Option, Result, Ok, Err, IfSome}
-use Rattle.std.specs.Prelude.{length}
+use Rattle.std.specs.Prelude.{◌≡◌, ◌≢◌, ◌<◌, ◌↔◌, ℕ, List, Option, Result, Ok, Err, IfSome, length}
 use Rattle.std.specs.Io.KnownBytes.{Consumes}
-use Rattle.tdb_base.specs.History.{Vector}
 use Rattle.trace_csv.specs.Input.{limit}
 use Rattle.trace_csv.specs.Trace.{Unsigned, trace_of}
+use Rattle.trace_csv.specs.declared.refusal.TraceError.{TraceError}
 use Rattle.trace_csv.specs.declared.refusal.TraceError.TheVariants as t
 use Rattle.command_line.specs.declared.outcome.Choice.{Choice}
 use Rattle.run_check.specs.Cut.{IsWhole}
 use Rattle.command_line.specs.declared.outcome.Job.TheVariants.{Check}
 use Rattle.treedb.specs.Check.{IsWrongInput}
-use Rattle.treedb.specs.Lines.{IsTraceText, takes_lines}
+use Rattle.treedb.specs.Lines.{IsTraceText}
 use Rattle.treedb.specs.declared.ended.Ended.{Ended}
 use Rattle.treedb.specs.declared.ended.Ended.TheVariants as e
-use Rattle.treedb.specs.declared.ended.Refusal.{Refusal}
-use Rattle.treedb.specs.declared.ended.Refusal.TheVariants as r
 
--- the bytes are refused for this: the first fault of their trace, or lines that the choice doesn't take
-abbrev pub IsRefusedFor : Choice → List ℕ → Refusal → Type 0
-IsRefusedFor c bytes (r.Trace error) = (trace_of (Unsigned c.profile) bytes ≡ Err error)
-    × (error ≢ t.NoMemory)
-IsRefusedFor c bytes r.NotPairs = (lines : List Vector) × (trace_of (Unsigned c.profile) bytes ≡ Ok lines)
-    × (takes_lines c lines ≡ false)
+-- the bytes are refused for this, the first fault of their trace
+abbrev pub IsRefusedFor : Choice → List ℕ → TraceError → Type 0
+IsRefusedFor c bytes error = (trace_of (Unsigned c.profile) bytes ≡ Err error) × (error ≢ t.NoMemory)
 
 -- the trace of an input is refused for this
-abbrev pub IsBadTrace : Choice → List ℕ → Refusal → Type 0
-IsBadTrace c bytes refusal = (text : List ℕ) × IsTraceText c.job bytes text × IsRefusedFor c text refusal
+abbrev pub IsBadTrace : Choice → List ℕ → TraceError → Type 0
+IsBadTrace c bytes error = (text : List ℕ) × IsTraceText c.job bytes text × IsRefusedFor c text error
 
 -- a run ends with a refusal of the bytes that are its input, or for want of memory
 abbrev pub RefusesInput : Choice → List ℕ → Ended → Type 0
-RefusesInput c bytes (e.BadTrace refusal) = IsBadTrace c bytes refusal
+RefusesInput c bytes (e.BadTrace error) = IsBadTrace c bytes error
 RefusesInput c bytes e.NoReport = (c.job ≡ Check) × IsWhole bytes
 RefusesInput c bytes (e.WrongReport line) = (c.job ≡ Check) × IsWrongInput c bytes line
 RefusesInput c bytes e.NoMemory = Unit {0}
@@ -43,7 +37,7 @@ RefusesInput c bytes e.Refuted = ⊥
 
 -- or it ends so because its source gave no input
 abbrev pub EndsReading : Choice → Option (List ℕ) → Ended → Type 0
-EndsReading c told (e.BadTrace refusal) = IfSome told (λ bytes. IsBadTrace c bytes refusal)
+EndsReading c told (e.BadTrace error) = IfSome told (λ bytes. IsBadTrace c bytes error)
 EndsReading c told e.NoReport = (c.job ≡ Check) × IfSome told IsWhole
 EndsReading c told (e.WrongReport line) = (c.job ≡ Check) × IfSome told (λ bytes. IsWrongInput c bytes line)
 EndsReading c told e.NoMemory = Unit {0}
@@ -58,7 +52,7 @@ EndsReading c told e.Refuted = ⊥
 -- the source was read to its end: there is what was read, or it is refused
 abbrev pub ReadsToEnd : {T : Type 0} → Result T Ended → Type 0
 ReadsToEnd (Ok lines) = Unit {0}
-ReadsToEnd (Err (e.BadTrace refusal)) = Unit {0}
+ReadsToEnd (Err (e.BadTrace error)) = Unit {0}
 ReadsToEnd (Err e.NoMemory) = ⊥
 ReadsToEnd (Err e.TooMuch) = ⊥
 ReadsToEnd (Err e.ReadFault) = ⊥

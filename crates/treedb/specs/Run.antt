@@ -13,6 +13,8 @@ use Rattle.tdb_base.specs.Replies.{is_full}
 use Rattle.tdb_base.specs.declared.reply.Reply.{Reply}
 use Rattle.tdb_base.specs.declared.reply.Status.{Status}
 use Rattle.tdb_base.specs.declared.reply.Status.TheVariants as s
+use Rattle.region_root.specs.Compact.{compact}
+use Rattle.root_plain.specs.Plain.{plain}
 use Rattle.trace_csv.specs.Input.{limit}
 use Rattle.trace_csv.specs.Output.{TakesFront}
 use Rattle.trace_csv.specs.Report.{report, summary_of, summary_text}
@@ -25,8 +27,7 @@ use Rattle.command_line.specs.declared.outcome.Mode.{Mode}
 use Rattle.command_line.specs.declared.outcome.Mode.TheVariants.{Plain, Compact}
 use Rattle.command_line.specs.declared.outcome.Choice.{Choice}
 use Rattle.treedb.specs.Lines.{IsTraceFor}
-use Rattle.treedb.specs.Offered.{flag_count}
-use Rattle.treedb.specs.Pairs.{IsOfPairs}
+use Rattle.treedb.specs.Chosen.{flag_count}
 use Rattle.treedb.specs.Stored.{InStore}
 
 -- the run wrote its whole text
@@ -61,10 +62,11 @@ pub record GivesWithin (old new : Option (List ℕ)) (status : Status) : Type 0 
   pub given : Consumes old new gave
   pub too_much : (status ≡ s.TooMuch) ↔ (limit < length gave)
 
--- what stands behind the replies: a plain store, or pairs
+-- what stands behind the replies: a store of the mode
 abbrev pub IsOfMode : Mode → Choice → List Vector → List Reply → History → Option Stats → Type 0
-IsOfMode Plain c trace replies h stats = InStore c trace replies h stats
-IsOfMode Compact c trace replies h stats = IsOfPairs c.profile replies h × (stats ≡ None)
+IsOfMode Plain c trace replies h stats = InStore plain c trace replies h stats
+IsOfMode Compact c trace replies h stats =
+    InStore (compact c.profile (flag_count c.profile)) c trace replies h stats
 
 -- a run that inserts lines, of a choice over the input that a source tells: its lines, a reply for each, and
 -- the one history that the replies form

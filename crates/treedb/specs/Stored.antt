@@ -1,4 +1,4 @@
--- What stands in a plain store at the end of a run.
+-- What stands in a store at the end of a run.
 use Rattle.std.specs.Prelude.{◌≡◌, ◌+◌, ◌*◌, ◌-◌, ◌≤◌, ◌↔◌, ℕ, Bool, true, false, List, Option, Some, None}
 use Rattle.std.specs.Prelude.{All, length, slice_get, count_by, ⊤}
 use Rattle.std.specs.List.{list_any}
@@ -8,21 +8,22 @@ use Rattle.tdb_base.specs.Replies.{is_new, is_full}
 use Rattle.tdb_base.specs.declared.reply.Reply.{Reply}
 use Rattle.pair_rule.specs.Laws.{IsAbout}
 use Rattle.pair_rule.specs.Numbers.{NoRepeats}
+use Rattle.pair_rule.specs.Part.{Part}
 use Rattle.pair_rule.specs.Rest.{Housed}
 use Rattle.pair_rule.specs.declared.sizes.About.{About}
-use Rattle.root_plain.specs.Plain.{plain}
 use Rattle.tree_store.specs.Vectors.{IsInTree}
 use Rattle.work_run.specs.Full.{Barred, AreOfVectors}
 use Rattle.trace_csv.specs.declared.report.Stats.{Stats}
 use Rattle.command_line.specs.Sizes.{AreTableSizes}
 use Rattle.command_line.specs.declared.outcome.Choice.{Choice}
 use Rattle.command_line.specs.declared.table.TableSizes.{TableSizes}
-use Rattle.treedb.specs.Offered.{flag_count}
+use Rattle.treedb.specs.Chosen.{flag_count}
 
 -- what the tables of a choice are about, for these lines: the profile, the lines' slots, and the sizes that
 -- the words give or the least that suffice
-pub record IsAboutChoice (c : Choice) (trace : List Vector) (about : About) : Type 0 where
-  pub is_about : IsAbout plain.sized plain.count about
+pub record IsAboutChoice {T : Type 0} (part : Part T) (c : Choice) (trace : List Vector)
+    (about : About) : Type 0 where
+  pub is_about : IsAbout part.sized part.count about
   pub width : about.width ≡ c.profile
   pub flags : about.flags ≡ flag_count c.profile
   pub slots : All (λ v. length v ≡ about.slots) trace
@@ -35,14 +36,14 @@ pub record IsAboutChoice (c : Choice) (trace : List Vector) (about : About) : Ty
 
 -- the counts of a store with these nodes: the nodes' indexes, each once, and the bytes of nodes and names and
 -- of the named vectors
-pub record Counts (about : About) (lines : ℕ) (nodes : List (ℕ × ℕ)) (replies : List Reply)
-    (stats : Stats) : Type 0 where
+pub record Counts {T : Type 0} (part : Part T) (about : About) (lines : ℕ) (nodes : List (ℕ × ℕ))
+    (replies : List Reply) (stats : Stats) : Type 0 where
   pub indexes : List ℕ
   pub once : NoRepeats indexes
   pub all : (index : ℕ) → Has index indexes ↔ ((pair : ℕ) × Has (index, pair) nodes)
   pub nodes_are : stats.nodes ≡ length indexes
   pub few : stats.nodes ≤ (about.slots - 2) * lines
-  pub stored : stats.stored ≡ 8 * stats.nodes + 8 * count_by is_new replies
+  pub stored : stats.stored ≡ 8 * stats.nodes + part.bytes about (count_by is_new replies)
   pub raw : stats.raw ≡ 4 * about.slots * count_by is_new replies
 
 -- the counts are told exactly where they are asked for
@@ -59,15 +60,15 @@ NodesAreNamed about nodes h = (index pair : ℕ) → Has (index, pair) nodes
 
 -- the store at the end of a run: its nodes and roots house the history, its nodes come of the lines, and a
 -- line is full only where a pair of its tree has no place
-pub record InStore (c : Choice) (trace : List Vector) (replies : List Reply) (h : History)
-    (stats : Option Stats) : Type 0 where
+pub record InStore {T : Type 0} (part : Part T) (c : Choice) (trace : List Vector) (replies : List Reply)
+    (h : History) (stats : Option Stats) : Type 0 where
   pub about : About
   pub nodes : List (ℕ × ℕ)
   pub roots : List (ℕ × ℕ)
-  pub about_is : IsAboutChoice c trace about
-  pub housed : Housed about (plain.house about) nodes roots h
+  pub about_is : IsAboutChoice part c trace about
+  pub housed : Housed about (part.house about) nodes roots h
   pub filled : AreOfVectors about nodes trace
   pub barred : (i : ℕ) (v : Vector) (reply : Reply) → slice_get trace i ≡ Some v
-      → slice_get replies i ≡ Some reply → Barred plain about nodes roots v reply
+      → slice_get replies i ≡ Some reply → Barred part about nodes roots v reply
   pub named : list_any is_full replies ≡ false → NodesAreNamed about nodes h
-  pub counts : AreTold c.stats stats (Counts about (length trace) nodes replies)
+  pub counts : AreTold c.stats stats (Counts part about (length trace) nodes replies)

@@ -1,9 +1,15 @@
 -- How a run ends that wrote its text.
-use Rattle.std.specs.Prelude.{◌≡◌, ◌⊎◌, ℕ, zero, suc, List, Option, count_by}
+use Rattle.std.specs.Prelude.{◌≡◌, ◌≢◌, ◌⊎◌, ℕ, zero, suc, true, List, Option, count_by}
 use Rattle.std.specs.Io.KnownBytes.{Appends}
 use Rattle.trace_csv.specs.Output.{TakesFront}
+use Rattle.tdb_base.specs.Causes.{Rose}
+use Rattle.tdb_base.specs.History.{History}
 use Rattle.tdb_base.specs.Replies.{is_full}
 use Rattle.tdb_base.specs.declared.reply.Reply.{Reply}
+use Rattle.command_line.specs.declared.outcome.Choice.{Choice}
+use Rattle.treedb.specs.Outcome.{SinkStep}
+use Rattle.treedb.specs.Run.{IsText, TellsOnly}
+use Rattle.treedb.specs.declared.fill.Answered.{Answered}
 use Rattle.treedb.specs.declared.ended.Ended.{Ended}
 use Rattle.treedb.specs.declared.ended.Ended.TheVariants as e
 
@@ -20,3 +26,13 @@ ended_with replies = ended_with_full (count_by is_full replies)
 abbrev pub WritesText : List ℕ → List Reply → (old new : Option (List ℕ)) → Ended → Type 0
 WritesText text replies old new ended =
     (Appends old new text × (ended ≡ ended_with replies)) ⊎ (TakesFront old new text × (ended ≡ e.WriteFault))
+
+-- the text of a choice's job was written, or a front of it, and the run ends so
+pub record WritesAnswered {K : Type 0} (c : Choice) (answered : Answered) (h : History) (sink : SinkStep K)
+    (ended : Ended) : Type 0 where
+  pub text : List ℕ
+  pub is_text : IsText c.job answered.replies.items h answered.stats text
+  pub written : WritesText text answered.replies.items (sink.taken sink.old) (sink.taken sink.new) ended
+  pub only : ended ≢ e.WriteFault → TellsOnly c.job answered.replies.items text
+  pub settled : ended ≢ e.WriteFault → sink.settled sink.new ≡ true
+  pub fault : ended ≡ e.WriteFault → Rose (sink.faults sink.old) (sink.faults sink.new)

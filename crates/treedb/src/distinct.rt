@@ -1,31 +1,24 @@
-//! The job `distinct`: the lines of the input are inserted, and the vectors that were answered new are
-//! written, read back from the store by their identifiers, in rising list order.
+//! What the job `distinct` writes: the vectors that were answered new, read back from the store by their
+//! identifiers, in rising list order.
 ghost use Rattle.std.specs.Prelude.{◌≡◌, ◌+◌, ◌*◌, ◌++◌, ◌∷◌, ◌≤◌, ◌<◌, ◌^◌, [], ℕ, All, IfOk, IfSome, List};
-ghost use Rattle.std.specs.Prelude.{Some, true, IsPermutation, drop, length, map, slice_get, take};
+ghost use Rattle.std.specs.Prelude.{Some, IsPermutation, drop, length, map, slice_get, take};
 ghost use Rattle.std.specs.Prelude.{vec_capacity};
 ghost use Rattle.std.specs.List.Sorted.{IsSortedByKey};
 ghost use Rattle.tdb_base.specs.History.{name_of};
 ghost use Rattle.tdb_base.specs.Legal.{Extends};
 ghost use Rattle.pair_rule.specs.Rest.{AtRest, view};
-ghost use Rattle.root_plain.specs.Plain.{plain};
 ghost use Rattle.trace_csv.specs.Sorted.{list_order};
 ghost use Rattle.trace_csv.specs.Vectors.{vector_at as vector_of_number};
 ghost use Rattle.treedb.specs.ReadBack.{Adds, AwaitsLines, HasRoomFor, IfPrinted, IsCounted, IsReadBy};
 ghost use Rattle.treedb.specs.ReadBack.{KeepsRoom, ReadsInto, new_id, new_ids, vectors};
 ghost use Rattle.tree_store.specs.Store.{Advanced};
-ghost use Rattle.command_line.specs.Valid.{IsValid};
-ghost use Rattle.treedb.specs.Offered.{is_offered};
-ghost use Rattle.treedb.specs.Outcome.{EndsAs};
 
-use crate::ended::Ended;
-use crate::input::read_lines;
-use crate::output::write_distinct;
-use crate::store::insert_lines;
-use command_line::{Choice, Job};
+use command_line::Job;
+use pair_nodes::RootNames;
+use pair_rule::Pass;
 use std::alloc::Global;
-use std::thread::Threads;
-use tdb_base::{Gate, NoMemory, Reply, Sink, Source};
-use tree_store::{PlainPass, PlainStore};
+use tdb_base::{NoMemory, Reply};
+use tree_store::{TreeStore, read_vector};
 
 /// Vectors of so many slots that stand one after the other, and their numbers in the order in which they are
 /// written.
@@ -51,27 +44,29 @@ fn vector_at(slots: usize, flat: &[u32], number: u32) -> &[u32]
 }
 
 // Reads the vector of an identifier into the slots from a place on.
-fn read_at<const W: u32, const F: u32>(
-    store: &PlainStore<W, F>,
-    pass: &mut PlainPass<W, F>,
+fn read_at<N: RootNames<W, F>, const W: u32, const F: u32>(
+    names: &N,
+    store: &TreeStore<N::Part, W, F>,
+    pass: &mut Pass<N::Part, W, F>,
     id: u64,
     slots: usize,
     at: usize,
     flat: &mut [u32],
 )
-    requires rest { AtRest plain store.now pass.old }
+    requires names { N.store names.now ≡ store.now }
+    requires rest { AtRest N.Part.part store.now pass.old }
     requires named { (vector : List ℕ) × (name_of (view pass.old).seen vector ≡ Some id) }
     requires slots { slots ≡ store.now.about.slots }
     requires there { at + slots ≤ length flat.old }
-    ensures rest { AtRest plain store.now pass.new }
-    ensures no_call { Advanced plain [] (view pass.old) (view pass.new) }
+    ensures rest { AtRest N.Part.part store.now pass.new }
+    ensures no_call { Advanced N.Part.part [] (view pass.old) (view pass.new) }
     ensures written { (vector : List ℕ) × (length vector ≡ slots)
         × (name_of (view pass.old).seen vector ≡ Some id)
         × (flat.new ≡ take at flat.old ++ (vector ++ drop (at + slots) flat.old)) }
 {
     let (_, rest) = flat.split_at_mut(at);
     let (out, _) = rest.split_at_mut(slots);
-    store.read(pass, id, out);
+    read_vector(names, store, pass, id, out);
 }
 
 impl ReadBack {
@@ -89,19 +84,21 @@ impl ReadBack {
     }
 
     // Reads back one vector more.
-    fn add<const W: u32, const F: u32>(
+    fn add<N: RootNames<W, F>, const W: u32, const F: u32>(
         &mut self,
-        store: &PlainStore<W, F>,
-        pass: &mut PlainPass<W, F>,
+        names: &N,
+        store: &TreeStore<N::Part, W, F>,
+        pass: &mut Pass<N::Part, W, F>,
         id: u64,
     )
-        requires rest { AtRest plain store.now pass.old }
+        requires names { N.store names.now ≡ store.now }
+        requires rest { AtRest N.Part.part store.now pass.old }
         requires named { (vector : List ℕ) × (name_of (view pass.old).seen vector ≡ Some id) }
         requires slots { self.old.slots ≡ store.now.about.slots }
         requires room { HasRoomFor 1 self.old }
         requires counted { IsCounted self.old }
-        ensures rest { AtRest plain store.now pass.new }
-        ensures no_call { Advanced plain [] (view pass.old) (view pass.new) }
+        ensures rest { AtRest N.Part.part store.now pass.new }
+        ensures no_call { Advanced N.Part.part [] (view pass.old) (view pass.new) }
         ensures room { KeepsRoom self.old self.new }
         ensures counted { IsCounted self.new }
         ensures one_more { length self.new.order.items ≡ length self.old.order.items + 1 }
@@ -110,26 +107,28 @@ impl ReadBack {
     {
         let number = self.order.len();
         let at = number * self.slots;
-        read_at(store, pass, id, self.slots, at, &mut self.flat);
+        read_at(names, store, pass, id, self.slots, at, &mut self.flat);
         let Ok(()) = self.order.push(number as u32) else {
             unreachable!()
         };
     }
 
     // Reads back the vector of a reply that is new.
-    fn add_new<const W: u32, const F: u32>(
+    fn add_new<N: RootNames<W, F>, const W: u32, const F: u32>(
         &mut self,
-        store: &PlainStore<W, F>,
-        pass: &mut PlainPass<W, F>,
+        names: &N,
+        store: &TreeStore<N::Part, W, F>,
+        pass: &mut Pass<N::Part, W, F>,
         reply: Reply,
     )
-        requires rest { AtRest plain store.now pass.old }
+        requires names { N.store names.now ≡ store.now }
+        requires rest { AtRest N.Part.part store.now pass.old }
         requires named { IfSome (new_id reply)
             (λ id. (vector : List ℕ) × (name_of (view pass.old).seen vector ≡ Some id)) }
         requires slots { self.old.slots ≡ store.now.about.slots }
         requires room { HasRoomFor 1 self.old }
         requires counted { IsCounted self.old }
-        ensures rest { AtRest plain store.now pass.new }
+        ensures rest { AtRest N.Part.part store.now pass.new }
         ensures later { Extends (view pass.old).seen (view pass.new).seen }
         ensures room { KeepsRoom self.old self.new }
         ensures counted { IsCounted self.new }
@@ -137,19 +136,21 @@ impl ReadBack {
         ensures added { Adds (view pass.old).seen (new_id reply) (vectors self.old) (vectors self.new) }
     {
         match reply {
-            Reply::New(id) => self.add(store, pass, id),
+            Reply::New(id) => self.add(names, store, pass, id),
             Reply::Seen(_) | Reply::FullNodes | Reply::FullRoots => {}
         }
     }
 
     // Reads back the vectors of the replies that are new, in their order.
-    fn add_all<const W: u32, const F: u32>(
+    fn add_all<N: RootNames<W, F>, const W: u32, const F: u32>(
         &mut self,
-        store: &PlainStore<W, F>,
-        pass: &mut PlainPass<W, F>,
+        names: &N,
+        store: &TreeStore<N::Part, W, F>,
+        pass: &mut Pass<N::Part, W, F>,
         replies: &[Reply],
     )
-        requires rest { AtRest plain store.now pass.old }
+        requires names { N.store names.now ≡ store.now }
+        requires rest { AtRest N.Part.part store.now pass.old }
         requires named { All
             (λ reply. IfSome (new_id reply)
             (λ id. (vector : List ℕ) × (name_of (view pass.old).seen vector ≡ Some id))) replies.now }
@@ -163,7 +164,7 @@ impl ReadBack {
             (new_ids replies.now) }
     {
         for reply in replies {
-            self.add_new(store, pass, *reply);
+            self.add_new(names, store, pass, *reply);
         }
     }
 
@@ -185,20 +186,22 @@ impl ReadBack {
     }
 
     // Reads back the vectors of the replies that are new, in rising list order.
-    fn fill<const W: u32, const F: u32>(
+    fn fill<N: RootNames<W, F>, const W: u32, const F: u32>(
         mut self,
-        store: &PlainStore<W, F>,
-        pass: &mut PlainPass<W, F>,
+        names: &N,
+        store: &TreeStore<N::Part, W, F>,
+        pass: &mut Pass<N::Part, W, F>,
         replies: &[Reply],
     ) -> ReadBack
-        requires rest { AtRest plain store.now pass.old }
+        requires names { N.store names.now ≡ store.now }
+        requires rest { AtRest N.Part.part store.now pass.old }
         requires named { All
             (λ reply. IfSome (new_id reply)
             (λ id. (vector : List ℕ) × (name_of (view pass.old).seen vector ≡ Some id))) replies.now }
         requires room { AwaitsLines store.now.about.slots (length replies.now) self }
         ensures { IsReadBy (view pass.old).seen (new_ids replies.now) result }
     {
-        self.add_all(store, pass, replies);
+        self.add_all(names, store, pass, replies);
         self.sort();
         self
     }
@@ -225,13 +228,15 @@ pub fn take_room(
 /// is room for them.
 ///
 /// It takes no memory, so it always succeeds.
-pub fn read_back<const W: u32, const F: u32>(
-    store: &PlainStore<W, F>,
-    pass: &mut PlainPass<W, F>,
+pub fn read_back<N: RootNames<W, F>, const W: u32, const F: u32>(
+    names: &N,
+    store: &TreeStore<N::Part, W, F>,
+    pass: &mut Pass<N::Part, W, F>,
     replies: &[Reply],
     room: Option<ReadBack>,
 ) -> Option<ReadBack>
-    requires rest { AtRest plain store.now pass.old }
+    requires names { N.store names.now ≡ store.now }
+    requires rest { AtRest N.Part.part store.now pass.old }
     requires named { All
         (λ reply. IfSome (new_id reply)
         (λ id. (vector : List ℕ) × (name_of (view pass.old).seen vector ≡ Some id))) replies.now }
@@ -239,37 +244,7 @@ pub fn read_back<const W: u32, const F: u32>(
     ensures { ReadsInto (view pass.old).seen (new_ids replies.now) room result }
 {
     match room {
-        Some(back) => Some(back.fill(store, pass, replies)),
+        Some(back) => Some(back.fill(names, store, pass, replies)),
         None => None,
     }
-}
-
-/// Inserts the lines of the source, and writes the vectors that got a name, each once, in rising list order.
-pub fn distinct<R: Threads + Sync, S: Source, K: Sink, G: Gate>(
-    rt: &R,
-    alloc: Global,
-    choice: &Choice,
-    source: &mut S,
-    sink: &mut K,
-    gate: &G,
-) -> Ended
-    requires valid { IsValid choice.now }
-    requires offered { is_offered choice.now ≡ true }
-    requires job { choice.now.job ≡ Job.Distinct }
-    ensures { EndsAs (Some choice.now)
-        (record { left = S.left; faults = S.faults; old = source.old; new = source.new })
-        (record { taken = K.taken; faults = K.faults; settled = K.settled; old = sink.old; new = sink.new })
-        result }
-{
-    let trace = match read_lines(alloc, choice, source) {
-        Ok(trace) => trace,
-        Err(ended) => return ended,
-    };
-    let Ok(answered) = insert_lines(rt, alloc, choice, &trace, gate) else {
-        return Ended::NoMemory;
-    };
-    let Some(vectors) = &answered.vectors else {
-        unreachable!()
-    };
-    write_distinct(vectors, &answered.replies, sink)
 }

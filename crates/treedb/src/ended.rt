@@ -5,15 +5,6 @@ ghost use Rattle.treedb.specs.Note.{status_of};
 use tdb_base::Status;
 use trace_csv::TraceError;
 
-/// Why some bytes are no trace that the program takes.
-#[derive(Clone, Copy, Debug, PartialEq, Eq)]
-pub enum Refusal {
-    /// They write no trace, as `read_trace` refuses them; never its `NoMemory`.
-    Trace(TraceError),
-    /// Their vectors have other than two slots, which compact mode doesn't take as yet.
-    NotPairs,
-}
-
 /// How a run ended, with what its note tells.
 #[derive(Clone, Copy, Debug, PartialEq, Eq)]
 pub enum Ended {
@@ -21,8 +12,8 @@ pub enum Ended {
     Done,
     /// The words of the command line are faulty.
     Usage,
-    /// The input is no trace.
-    BadTrace(Refusal),
+    /// The input is no trace, as `read_trace` refuses it; never its `NoMemory`.
+    BadTrace(TraceError),
     /// The input is over the limit.
     TooMuch,
     /// The text was written, and so many lines, at least one, were answered full.

@@ -2,17 +2,15 @@
 //! standard output.
 #![tactic(auto)]
 
-mod bench;
 mod check;
 mod distinct;
 mod ended;
+mod fill;
 mod input;
-mod insert;
 mod job;
 mod line_text;
 mod notes;
 mod output;
-mod pairs;
 mod run;
 mod stats;
 mod store;

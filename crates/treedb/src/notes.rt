@@ -6,7 +6,7 @@ ghost use Rattle.tdb_base.specs.Causes.{Rose};
 ghost use Rattle.trace_csv.specs.Output.{TakesFront};
 ghost use Rattle.treedb.specs.Note as note;
 
-use crate::ended::{Ended, Refusal};
+use crate::ended::Ended;
 use crate::line_text::LineText;
 use command_line::USAGE;
 use tdb_base::Sink;
@@ -26,7 +26,7 @@ pub fn write_note<N: Sink>(ended: &Ended, notes: &mut N)
 {
     match ended {
         Ended::Usage => put_note(USAGE.as_bytes(), notes),
-        Ended::BadTrace(refusal) => put_note(refusal_text(*refusal).as_slice(), notes),
+        Ended::BadTrace(error) => put_note(trace_text(*error).as_slice(), notes),
         Ended::TooMuch => put_note(b"treedb: input is over 67108864 bytes\n", notes),
         Ended::Full(lines) => put_note(full_text(*lines).as_slice(), notes),
         Ended::ReadFault => put_note(b"treedb: read fault\n", notes),
@@ -48,15 +48,6 @@ fn put_note<N: Sink>(text: &[u8], notes: &mut N)
 {
     // There is nobody left to tell of a fault.
     let _ = write_text(text, notes);
-}
-
-fn refusal_text(refusal: Refusal) -> LineText
-    ensures { result ≡ note.refusal_text refusal }
-{
-    match refusal {
-        Refusal::Trace(error) => trace_text(error),
-        Refusal::NotPairs => LineText::of(b"treedb: compact mode takes 2 slots\n"),
-    }
 }
 
 fn trace_text(error: TraceError) -> LineText

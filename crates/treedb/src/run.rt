@@ -1,49 +1,32 @@
 //! What the program does: the words choose, the job is done, and a note tells of the end.
 ghost use Rattle.std.specs.Prelude.{◌≡◌, Some, IfOk, IfErr, false, map, string_bytes, true};
 ghost use Rattle.tdb_base.specs.Causes.{Rose};
+ghost use Rattle.command_line.specs.Choose.{chosen};
 ghost use Rattle.command_line.specs.Valid.{IsValid};
 ghost use Rattle.treedb.specs.Note.{has_note, status_of};
-ghost use Rattle.treedb.specs.Offered.{EndsUnchosen, is_offered, offered, offered_plain};
+ghost use Rattle.treedb.specs.Chosen.{EndsUnchosen, chosen_plain};
 ghost use Rattle.treedb.specs.Outcome.{IsNoted, RunEnds};
 
 use crate::ended::Ended;
-use crate::job::do_job;
+use crate::job::{do_job, do_job_waiting};
 use crate::notes::write_note;
-use command_line::{Choice, ChoiceError, Job, Mode, choose};
+use command_line::{Choice, ChoiceError, Mode, choose};
 use std::alloc::Global;
 use std::sync::Wait;
 use std::thread::Threads;
 use tdb_base::{Gate, Sink, Source, Status};
 
-// Whether a choice is offered: as yet in compact mode one worker inserts lines, and no statistics are told.
-fn is_offered(choice: &Choice) -> bool
-    ensures { result ≡ is_offered choice.now }
+// What the words choose, or how the run ends where they choose nothing.
+fn read_words(alloc: Global, words: &[String]) -> Result<Choice, Ended>
+    ensures chosen { IfOk result (λ choice. chosen (map string_bytes words.now) ≡ Some choice) }
+    ensures valid { IfOk result IsValid }
+    ensures none { IfErr result (EndsUnchosen (chosen (map string_bytes words.now))) }
 {
-    match choice.mode {
-        Mode::Plain => true,
-        Mode::Compact => match choice.job {
-            Job::Insert => choice.workers == 1 && !choice.stats,
-            Job::Distinct | Job::Bench => false,
-            Job::Check => true,
-        },
+    match choose(alloc, words) {
+        Ok(choice) => Ok(choice),
+        Err(ChoiceError::Usage) => Err(Ended::Usage),
+        Err(ChoiceError::NoMemory) => Err(Ended::NoMemory),
     }
-}
-
-// What the words choose of all that is offered, or how the run ends where they choose nothing.
-fn offered(alloc: Global, words: &[String]) -> Result<Choice, Ended>
-    ensures offers { IfOk result (λ choice. offered (map string_bytes words.now) ≡ Some choice) }
-    ensures choice { IfOk result (λ choice. IsValid choice × (is_offered choice ≡ true)) }
-    ensures none { IfErr result (EndsUnchosen (offered (map string_bytes words.now))) }
-{
-    let choice = match choose(alloc, words) {
-        Ok(choice) => choice,
-        Err(ChoiceError::Usage) => return Err(Ended::Usage),
-        Err(ChoiceError::NoMemory) => return Err(Ended::NoMemory),
-    };
-    if !is_offered(&choice) {
-        return Err(Ended::Usage);
-    }
-    Ok(choice)
 }
 
 // Writes the note of the end: the status.
@@ -84,13 +67,13 @@ pub fn run_plain<R: Threads + Sync, S: Source, K: Sink, N: Sink, G: Gate>(
     notes: &mut N,
     gate: &G,
 ) -> Status
-    ensures { RunEnds (offered_plain (map string_bytes words.now))
+    ensures { RunEnds (chosen_plain (map string_bytes words.now))
         (record { left = S.left; faults = S.faults; old = source.old; new = source.new })
         (record { taken = K.taken; faults = K.faults; settled = K.settled; old = sink.old; new = sink.new })
         (record { taken = N.taken; faults = N.faults; settled = N.settled; old = notes.old; new = notes.new })
         result }
 {
-    match offered(alloc, words) {
+    match read_words(alloc, words) {
         Ok(choice) => match choice.mode {
             Mode::Plain => tell(do_job(rt, alloc, &choice, source, sink, gate), notes),
             Mode::Compact => tell(Ended::Usage, notes),
@@ -101,9 +84,8 @@ pub fn run_plain<R: Threads + Sync, S: Source, K: Sink, N: Sink, G: Gate>(
 
 /// All that the program does, in either mode: `run_plain` says how a run goes and ends.
 ///
-/// Compact mode takes traces of pairs as yet, with one worker, for the job `insert`, and tells no statistics:
-/// other words are `Usage`, and a trace of other than two slots is `BadTrace`. There `NoMemory` may also come
-/// while lines are answered, and nothing was written then. A report is checked alike in both modes.
+/// In compact mode workers may wait for the locks of regions of roots. A report is checked alike in both
+/// modes.
 pub fn run<R: Threads + Wait + Sync, S: Source, K: Sink, N: Sink, G: Gate>(
     rt: &R,
     alloc: Global,
@@ -113,16 +95,19 @@ pub fn run<R: Threads + Wait + Sync, S: Source, K: Sink, N: Sink, G: Gate>(
     notes: &mut N,
     gate: &G,
 ) -> Status
-    ensures { RunEnds (offered (map string_bytes words.now))
+    ensures { RunEnds (chosen (map string_bytes words.now))
         (record { left = S.left; faults = S.faults; old = source.old; new = source.new })
         (record { taken = K.taken; faults = K.faults; settled = K.settled; old = sink.old; new = sink.new })
         (record { taken = N.taken; faults = N.faults; settled = N.settled; old = notes.old; new = notes.new })
         result }
 {
-    match offered(alloc, words) {
+    match read_words(alloc, words) {
         Ok(choice) => match choice.mode {
             Mode::Plain => run_plain(rt, alloc, words, source, sink, notes, gate),
-            Mode::Compact => tell(do_job(rt, alloc, &choice, source, sink, gate), notes),
+            Mode::Compact => tell(
+                do_job_waiting(rt, alloc, &choice, source, sink, gate),
+                notes,
+            ),
         },
         Err(ended) => tell(ended, notes),
     }

@@ -4,6 +4,7 @@ ghost use Rattle.std.specs.Prelude.{◌<◌};
 
 mod changed;
 mod checks;
+mod compact;
 mod distinct;
 mod faults;
 mod notes;
@@ -197,47 +198,6 @@ fn tells_of_full_tables(rt: HostRuntime) -> Result<(), Fail> {
 }
 
 #[test]
-fn answers_traces_of_pairs_in_compact_mode(rt: HostRuntime) -> Result<(), Fail> {
-    let alloc = rt.alloc();
-    for (profile, input, text) in [
-        (
-            "28",
-            "3,5\n5,3\n3,5\n",
-            "1,805306373,new\n2,1342177283,new\n3,805306373,seen\nlines 3\ndistinct 2\n",
-        ),
-        ("28", "0,0", "1,0,new\nlines 1\ndistinct 1\n"),
-        (
-            "28",
-            "268435455,0\n",
-            "1,72057593769492480,new\nlines 1\ndistinct 1\n",
-        ),
-        (
-            "31",
-            "2147483647,2147483647\n",
-            "1,4611686018427387903,new\nlines 1\ndistinct 1\n",
-        ),
-        (
-            "16",
-            "0,1\n1,0\n0,1\n",
-            "1,1,new\n2,65536,new\n3,1,seen\nlines 3\ndistinct 2\n",
-        ),
-        (
-            "28",
-            "\"1\",\" 2 \"\r\n1,2\r\n\n",
-            "1,268435458,new\n2,268435458,seen\nlines 2\ndistinct 1\n",
-        ),
-    ] {
-        let words = ["insert", "--mode", "compact", "--profile", profile];
-        let bytes = input.as_bytes().to_vec(alloc)?;
-        let ran = run_on(&rt, alloc, &words, bytes, SOUND, &NoGate)?;
-        assert_eq!(rt; ran.status, Status::Done, "{input}");
-        assert_eq!(rt; ran.text.bytes(), text.as_bytes(), "{input}");
-        assert!(rt; ran.notes.bytes().is_empty(), "{input}");
-    }
-    Ok(())
-}
-
-#[test]
 fn draws_lines_and_reads_none(rt: HostRuntime) -> Result<(), Fail> {
     let alloc = rt.alloc();
     for (words, text) in [
@@ -274,9 +234,9 @@ fn takes_no_other_words(rt: HostRuntime) -> Result<(), Fail> {
         &["insert", "--workers", "65"],
         &["--mode", "plain"],
         &["insert", "--mode=fast"],
-        &["insert", "--mode", "compact", "--stats"],
-        &["insert", "--mode", "compact", "--workers", "2"],
-        &["bench", "--mode", "compact"],
+        &[
+            "insert", "--mode", "compact", "--roots", "6", "--region", "7",
+        ],
     ] {
         let broken = Devices {
             read: 1,

@@ -44,21 +44,6 @@ fn refuses_what_is_no_trace(rt: HostRuntime) -> Result<(), Fail> {
 }
 
 #[test]
-fn compact_mode_takes_pairs(rt: HostRuntime) -> Result<(), Fail> {
-    let alloc = rt.alloc();
-    let words = ["insert", "--mode", "compact"];
-    let bytes = b"1,2,3\n".to_vec(alloc)?;
-    let ran = run_on(&rt, alloc, &words, bytes, SOUND, &NoGate)?;
-    assert_eq!(rt; ran.status, Status::BadTrace);
-    assert!(rt; ran.text.bytes().is_empty());
-    assert_eq!(rt;
-        ran.notes.bytes(),
-        "treedb: compact mode takes 2 slots\n".as_bytes()
-    );
-    Ok(())
-}
-
-#[test]
 fn tells_of_a_failing_source(rt: HostRuntime) -> Result<(), Fail> {
     let alloc = rt.alloc();
     for read in 1..4 {

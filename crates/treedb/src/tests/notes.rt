@@ -1,6 +1,6 @@
 //! Each end of a run, with its exit status and its note.
 
-use crate::ended::{Ended, Refusal};
+use crate::ended::Ended;
 use crate::notes::write_note;
 use run_check::ReportError;
 use std::test::Fail;
@@ -8,7 +8,7 @@ use tdb_base::MemSink;
 use trace_csv::TraceError;
 
 // Each end of a run, with its exit status and its note.
-const NOTES: [(Ended, u8, &str); 18] = [
+const NOTES: [(Ended, u8, &str); 17] = [
     (Ended::Done, 0, ""),
     (
         Ended::Usage,
@@ -19,39 +19,34 @@ const NOTES: [(Ended, u8, &str); 18] = [
 ",
     ),
     (
-        Ended::BadTrace(Refusal::Trace(TraceError::NotANumber(2, 3))),
+        Ended::BadTrace(TraceError::NotANumber(2, 3)),
         3,
         "treedb: record 2 field 3 is not a number\n",
     ),
     (
-        Ended::BadTrace(Refusal::Trace(TraceError::TooBig(4, 1))),
+        Ended::BadTrace(TraceError::TooBig(4, 1)),
         3,
         "treedb: record 4 field 1 is too big\n",
     ),
     (
-        Ended::BadTrace(Refusal::Trace(TraceError::Ragged(12, 3, 1000))),
+        Ended::BadTrace(TraceError::Ragged(12, 3, 1000)),
         3,
         "treedb: record 12 has 3 fields, the first has 1000\n",
     ),
     (
-        Ended::BadTrace(Refusal::Trace(TraceError::Ragged(u64::MAX, u64::MAX, u64::MAX))),
+        Ended::BadTrace(TraceError::Ragged(u64::MAX, u64::MAX, u64::MAX)),
         3,
         "treedb: record 18446744073709551615 has 18446744073709551615 fields, the first has 18446744073709551615\n",
     ),
     (
-        Ended::BadTrace(Refusal::Trace(TraceError::Length(1, 1025))),
+        Ended::BadTrace(TraceError::Length(1, 1025)),
         3,
         "treedb: record 1 has 1025 fields, 2 to 1024 are allowed\n",
     ),
     (
-        Ended::BadTrace(Refusal::Trace(TraceError::NoRecords)),
+        Ended::BadTrace(TraceError::NoRecords),
         3,
         "treedb: no records\n",
-    ),
-    (
-        Ended::BadTrace(Refusal::NotPairs),
-        3,
-        "treedb: compact mode takes 2 slots\n",
     ),
     (Ended::TooMuch, 4, "treedb: input is over 67108864 bytes\n"),
     (Ended::Full(1), 5, "treedb: 1 lines full\n"),

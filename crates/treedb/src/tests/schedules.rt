@@ -5,10 +5,10 @@ use std::test::Fail;
 use tdb_base::{NoGate, Status, TurnGate};
 
 // So many turns that only a body without threads uses them up.
-const LONG: u64 = 1_000_000_000;
+pub(super) const LONG: u64 = 1_000_000_000;
 
 // So many lines of two slots, each of which is one of `distinct` vectors.
-fn input_of(alloc: Global, lines: u32, distinct: u32) -> Result<Vec<u8>, Fail> {
+pub(super) fn input_of(alloc: Global, lines: u32, distinct: u32) -> Result<Vec<u8>, Fail> {
     let mut input = Vec::new(alloc);
     for i in 0..lines {
         let at = i.checked_rem(distinct).unwrap_or(0);
@@ -19,7 +19,7 @@ fn input_of(alloc: Global, lines: u32, distinct: u32) -> Result<Vec<u8>, Fail> {
 }
 
 // How often a line of a text ends so.
-fn count_ends(text: &[u8], end: &[u8]) -> usize {
+pub(super) fn count_ends(text: &[u8], end: &[u8]) -> usize {
     text.split(|byte| *byte == b'\n')
         .filter(|line| line.ends_with(end))
         .count()
@@ -30,6 +30,15 @@ fn answers_many_lines(rt: HostRuntime) -> Result<(), Fail> {
     let alloc = rt.alloc();
     for words in [
         ["insert", "--mode", "compact"].as_slice(),
+        &[
+            "insert",
+            "--mode",
+            "compact",
+            "--workers",
+            "64",
+            "--block",
+            "1",
+        ],
         &["insert"],
         &["insert", "--workers", "3", "--block", "5"],
         &["insert", "--workers", "64", "--block", "1"],

@@ -1,7 +1,7 @@
 use Rattle.std.proofs.Common.{refl, ap}
 use Rattle.std.specs.Prelude.{Ok, Err}
 use Rattle.treedb.specs.Lines.{is_reader}
-use Rattle.treedb.specs.Offered.{is_check}
+use Rattle.treedb.specs.Chosen.{is_check}
 use Rattle.treedb.proofs.Outcomes.{has_read, stopped, verdict_written}
 use Rattle.treedb.proofs.check.check.Goals as goal
 
@@ -16,4 +16,5 @@ returns-in-Ok g c =
 pub returns-in-Err : goal.returns-in-Err
 returns-in-Err g c =
     let read = c.in-Err.ensures in
-    stopped c.args.choice.now _ _ c.in-Err.ended (Err c.in-Err.ended) refl refl (ap is_reader c.requires.job) read.refused read.gave read.fault read.end
+    stopped c.args.choice.now _ _ c.in-Err.ended (Err c.in-Err.ended) refl refl read.refused read.gave read.fault (λ r. read.end)
+    (λ no. let reads = ap is_reader c.requires.job in cc (no, reads))

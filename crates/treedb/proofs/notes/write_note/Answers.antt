@@ -20,3 +20,7 @@ returns-in-WriteFault-clause-exact g c = λ calm. rw c.in-WriteFault.is (c.put_n
 
 pub returns-in-NoMemory-clause-exact : goal.returns-in-NoMemory-clause-exact
 returns-in-NoMemory-clause-exact g c = λ calm. rw c.in-NoMemory.is (c.put_note-in-NoMemory.ensures.exact calm)
+
+pub returns-in-WrongReport-clause-exact : goal.returns-in-WrongReport-clause-exact
+returns-in-WrongReport-clause-exact g c = λ calm. rw c.in-WrongReport.is
+    (rw c.report_text.ensures at (rw c.as_slice-in-WrongReport.ensures at (c.put_note-in-WrongReport.ensures.exact calm)))

@@ -16,7 +16,7 @@ add_new-requires g c =
     let v = view c.loop-reply.pass in
     let named = named-later v.about.flags (view c.args.pass.now).seen v.seen (new_id (get_or replies i (New 0))) inv.rest.seat.sound.legal inv.later
     (c.requires.named i (New 0) (omega (arith, there))) in
-    (search rules, (search rules, (inv.rest, (named, (inv.slots ∙ c.requires.slots, (room-less (length replies - i) 1 c.loop-reply.self inv.room (omega (arith, there)), inv.counted))))))
+    (search rules, (c.requires.names, (inv.rest, (named, (inv.slots ∙ c.requires.slots, (room-less (length replies - i) 1 c.loop-reply.self inv.room (omega (arith, there)), inv.counted))))))
 
 pub loop-reply-preserved : goal.loop-reply-preserved
 loop-reply-preserved g c =

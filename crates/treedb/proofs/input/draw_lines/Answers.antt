@@ -1,6 +1,6 @@
 use Rattle.std.proofs.Common.{ℕ, List, length, ap, arith}
 use Rattle.trace_csv.proofs.FewLines.{drawn_length}
-use Rattle.treedb.proofs.bench.draw_lines.Goals as goal
+use Rattle.treedb.proofs.input.draw_lines.Goals as goal
 
 pub returns-in-Ok-clause-few : goal.returns-in-Ok-clause-few
 returns-in-Ok-clause-few c =

@@ -1,0 +1,17 @@
+use Rattle.std.proofs.Common.{rules}
+use Rattle.root_plain.specs.Plain.{plain}
+use Rattle.treedb.specs.Filling.{AreInserted}
+use Rattle.treedb.proofs.fill.fill_plain.Goals as goal
+
+pub complete_replies-requires : goal.complete_replies-requires
+complete_replies-requires g c =
+    let ready = c.requires.ready in
+    let inserted : AreInserted plain c.args.choice.now c.args.trace.now c.in_ok-replies.replies.items c.args.store.now c.run_lines.new.pass = record {
+      about_is = ready.about_is;
+      first = c.args.pass.now;
+      unknown = ready.unknown;
+      begins = ready.begins;
+      whole = ready.whole;
+      ran = c.in_ok-replies.ensures.ran;
+    } in
+    (search rules, (c.requires.valid, (c.requires.of_mode, (search rules, (c.in_ok-replies.ensures.rest, (inserted, ready.room_is))))))

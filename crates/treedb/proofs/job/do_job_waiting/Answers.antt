@@ -1,0 +1,39 @@
+use Rattle.std.proofs.Common.{◌≡◌, ◌≢◌, false, refl, rules, subst}
+use Rattle.std.specs.Prelude.{Ok, Err}
+use Rattle.command_line.specs.declared.outcome.Job.TheVariants.{Check}
+use Rattle.treedb.specs.Chosen.{is_check}
+use Rattle.treedb.proofs.LineLemmas.{not_check}
+use Rattle.treedb.proofs.Outcomes.{answered_end, has_input, out_of_memory, stopped}
+use Rattle.treedb.proofs.job.do_job_waiting.Goals as goal
+
+pub take_lines-requires : goal.take_lines-requires
+take_lines-requires g c =
+    let other : c.args.choice.now.job ≢ Check = search rules in
+    record { valid = c.requires.valid; inserts = not_check c.args.choice.now.job other }
+
+pub returns-in-Err : goal.returns-in-Err
+returns-in-Err g c =
+    let taken = c.in-Err.ensures in
+    stopped c.args.choice.now _ _ c.in-Err.ended (Err c.in-Err.ended) refl refl taken.refused taken.gave taken.fault taken.end taken.drawn
+
+pub returns-in_default : goal.returns-in_default
+returns-in_default g c =
+    let taken = c.in-Ok.ensures in
+    let trace = c.in-Ok.trace in
+    out_of_memory c.args.choice.now _ _ (has_input c.args.choice.now _ _ trace (Ok trace) refl taken.gave (λ r. taken.end r tt) taken.drawn) refl
+
+pub write_answered-requires : goal.write_answered-requires
+write_answered-requires g c =
+    let other : c.args.choice.now.job ≢ Check = search rules in
+    let answered = c.in-Ok-insert_lines_waiting.ensures in
+    record { inserts = not_check c.args.choice.now.job other; read = (answered.history, answered.vectors) }
+
+pub returns : goal.returns
+returns g c =
+    let choice = c.args.choice.now in
+    let other : choice.job ≢ Check = search rules in
+    let trace = c.in-Ok.trace in
+    let taken = c.in-Ok.ensures in
+    let answered = c.in-Ok-insert_lines_waiting.ensures in
+    answered_end choice _ _ (has_input choice _ _ trace (Ok trace) refl taken.gave (λ r. taken.end r tt) taken.drawn) trace c.in-Ok-insert_lines_waiting.answered answered
+    (not_check choice.job other) c.requires.valid.in_range.workers.0 taken.lines c.write_answered.result (c.write_answered.ensures answered.history answered.vectors)
