@@ -31,7 +31,7 @@ plain_word_count sizes = 2 ^ sizes.roots
 
 -- what a plain store's table is about
 abbrev pub IsPlain : About → Type 0
-IsPlain about = IsAbout RootsFit count about
+IsPlain about = IsAbout RootsFit plain_word_count about
 
 -- the word has this pair, with these flags
 pub record HoldsRoot (about : About) (word pair flags : ℕ) : Type 0 where
