@@ -14,3 +14,8 @@ pub mod TakenLines
 pub mod Working
 pub mod Placing
 pub mod DealtRun
+pub mod BlockLines
+pub mod DrawingLines
+pub mod WhoDrew
+pub mod DrawnRun
+pub mod Settling

@@ -5,13 +5,13 @@ use Rattle.std.proofs.lemmas.List.{map-id}
 use Rattle.std.proofs.lemmas.List.Elements.{All-head, All-tail}
 use Rattle.tdb_base.specs.Agrees.{entry_of_both, entries_of_insertion}
 use Rattle.tdb_base.specs.History.{Vector, History}
-use Rattle.tdb_base.specs.Lines.{mine, picked}
+use Rattle.tdb_base.specs.Lines.{picked}
 use Rattle.tdb_base.specs.declared.reply.Reply.{Reply}
 use Rattle.tdb_base.proofs.ListLemmas.{at-within}
 use Rattle.pair_rule.specs.declared.pass.PassOf.{PassOf}
 use Rattle.pair_rule.specs.declared.sizes.About.{About}
 use Rattle.pair_rule.specs.Part.{Part}
-use Rattle.work_run.specs.Ran.{HasRun, HasRunOver}
+use Rattle.work_run.specs.Ran.{HasRunOver}
 use Rattle.work_run.specs.Telling.{Telling, told_entries, entries_of_both, entries_at, insertion}
 
 module _ {A : Type 0} (telling : Telling A) (c : ℕ) where
@@ -43,11 +43,10 @@ insertion_of_both c (Some v) None = refl
 insertion_of_both c (Some v) (Some reply) = refl
 
 -- a run of insertions, by its replies
-pub insertion_run : {T : Type 0} (part : Part T) (about : About) (trace : List Vector) (replies : List Reply) (workers block : ℕ) (base new : PassOf T)
-    → HasRunOver (mine (length trace) workers block) (entries_at insertion trace replies) part about trace (map insertion.reply replies) workers base new
-    → HasRun part about trace replies workers block base new
-insertion_run part about trace replies workers block base new run =
-    let lines_of = mine (length trace) workers block in
+pub insertion_run : {T : Type 0} (part : Part T) (about : About) (trace : List Vector) (replies : List Reply) (lines_of : ℕ → List ℕ) (workers : ℕ) (base new : PassOf T)
+    → HasRunOver lines_of (entries_at insertion trace replies) part about trace (map insertion.reply replies) workers base new
+    → HasRunOver lines_of (entries_of_insertion trace replies) part about trace replies workers base new
+insertion_run part about trace replies lines_of workers base new run =
     subst (λ (rs : List Reply). HasRunOver lines_of (entries_of_insertion trace replies) part about trace rs workers base new) (map-id replies)
     (subst (λ (es : ℕ → ℕ → History). HasRunOver lines_of es part about trace (map insertion.reply replies) workers base new)
     (λ i c k. insertion_of_both c (slice_get trace k) (slice_get replies k) i) run)

@@ -8,3 +8,6 @@ pub mod Inserted
 pub mod Workers
 pub mod Work
 pub mod Ran
+pub mod BlockLines
+pub mod Drew
+pub mod Rooms

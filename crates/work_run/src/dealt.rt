@@ -6,10 +6,12 @@ ghost use Rattle.work_run.specs.Owned.{dealt_to};
 use crate::lines::count_of;
 use crate::supply::Supply;
 use crate::turns::Turns;
+use std::alloc::Global;
+use tdb_base::NoMemory;
 
 /// Lets each worker have its lines, one worker after the other.
 pub(crate) trait Dealing {
-    ghost use Rattle.std.specs.Prelude.{◌≡◌, ℕ, ◌+◌, ◌<◌, ◌≤◌};
+    ghost use Rattle.std.specs.Prelude.{◌≡◌, ℕ, ◌+◌, ◌<◌, ◌≤◌, IfOk, OnOk};
 
     /// What a worker has its lines from.
     type Lines: Supply;
@@ -29,11 +31,11 @@ pub(crate) trait Dealing {
         ensures { (lines : Self.Lines) → begins self.now number lines → Self.Lines.giving.left lines ≤ result };
 
     /// What the next worker has its lines from.
-    fn lines_of(&mut self, number: u64) -> Self::Lines
+    fn lines_of(&mut self, alloc: Global, number: u64) -> Result<Self::Lines, NoMemory>
         requires next { is_next self.old number }
         requires inside { number < count self.old }
-        ensures begins { begins self.old number result }
-        ensures next { is_next self.new (number + 1) }
+        ensures begins { IfOk result (begins self.old number) }
+        ensures next { OnOk result (is_next self.new (number + 1)) }
         ensures count { count self.new ≡ count self.old }
         ensures others { (n : ℕ) (lines : Self.Lines) → begins self.new n lines → begins self.old n lines };
 }
@@ -81,8 +83,8 @@ impl Dealing for Dealt {
         count_of(self.lines, self.workers, self.block, number)
     }
 
-    fn lines_of(&mut self, number: u64) -> Turns {
-        Turns::new(self.lines, self.workers, self.block, number)
+    fn lines_of(&mut self, _alloc: Global, number: u64) -> Result<Turns, NoMemory> {
+        Ok(Turns::new(self.lines, self.workers, self.block, number))
     }
 }
 

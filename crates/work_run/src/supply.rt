@@ -1,7 +1,7 @@
 //! Where a worker has its lines from.
 
 /// Gives a worker one line after another, as long as there are lines for it.
-pub(crate) trait Supply: Send + Drop {
+pub(crate) trait Supply: Drop {
     ghost use Rattle.std.specs.Prelude.{◌≡◌};
     ghost use Rattle.work_run.specs.Giving.{Giving, AddsUp, Asked};
 

@@ -36,7 +36,7 @@ fn work_through<T: Task, S: Supply, G: Gate>(
 }
 
 /// Each worker works through its lines, in a thread of its own where one can be started.
-pub(crate) fn work_at_once<R: Threads + Sync, T: Task, S: Supply, G: Gate>(
+pub(crate) fn work_at_once<R: Threads + Sync, T: Task, S: Supply + Send, G: Gate>(
     rt: &R,
     task: &T,
     trace: &Trace,

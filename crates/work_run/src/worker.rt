@@ -40,6 +40,23 @@ impl<T, S: Drop, A: Drop> Worker<T, S, A> {
         }
     }
 
+    // Its number, its pass, what it had its lines from, and its answers.
+    pub(crate) fn into_parts(self) -> (u64, PassOf<T>, S, Vec<A>)
+        ensures number { result.0 ≡ self.number }
+        ensures pass { result.1 ≡ self.pass }
+        ensures lines { result.2 ≡ self.lines }
+        ensures answers { result.3 ≡ self.answers }
+    {
+        let Self {
+            number,
+            pass,
+            lines,
+            answers,
+            gap: _,
+        } = self;
+        (number, pass, lines, answers)
+    }
+
     // The pass alone: the answers are freed.
     pub(crate) fn into_pass(self) -> PassOf<T>
         ensures { result ≡ self.pass }

@@ -1,35 +1,39 @@
 //! Workers are made, each with a pass that is split from one pass, and their passes are joined into it again.
-ghost use Rattle.std.specs.Prelude.{◌≡◌, ◌≤◌, IfOk, OnOk, OnErr, All, length, map};
+ghost use Rattle.std.specs.Prelude.{◌≡◌, ◌+◌, ◌<◌, ◌≤◌, ℕ, IfOk, OnOk, OnErr, All, length, map};
 ghost use Rattle.pair_rule.specs.Rest.{AtRest, view};
 ghost use Rattle.pair_rule.specs.View.{parent_view};
 ghost use Rattle.work_run.specs.Workers.{IsSplitWorker, AreSplitWorkers, AreJoined, Unused};
 
 use crate::dealt::Dealing;
-use crate::supply::Supply;
 use crate::worker::Worker;
 use pair_rule::{Pass, RootPart};
 use std::alloc::Global;
 use tdb_base::NoMemory;
 use tree_store::TreeStore;
 
-// A worker with this number, with a pass of its own and room for so many answers.
-fn split_worker<R: RootPart<W, F>, S: Supply, A: Copy, const W: u32, const F: u32>(
+// The worker with this number, which is the next one, with a pass of its own and room for its answers.
+fn split_worker<R: RootPart<W, F>, P: Dealing, A: Copy, const W: u32, const F: u32>(
     alloc: Global,
     store: &TreeStore<R, W, F>,
     pass: &mut Pass<R, W, F>,
+    dealing: &mut P,
     number: u64,
-    lines: S,
-    room: u64,
-) -> Result<Worker<R::View, S, A>, NoMemory>
+) -> Result<Worker<R::View, P::Lines, A>, NoMemory>
     requires rest { AtRest R.part store.now pass.old }
-    requires room { S.giving.left lines ≤ room }
+    requires next { P.is_next dealing.old number }
+    requires inside { number < P.count dealing.old }
     ensures rest { AtRest R.part store.now pass.new }
     ensures split { IfOk result
-        (IsSplitWorker R.part store.now S.giving.left (λ _ s. s ≡ lines) (view pass.old) number) }
+        (IsSplitWorker R.part store.now P.Lines.giving.left (P.begins dealing.old) (view pass.old) number) }
     ensures view { OnOk result (view pass.new ≡ parent_view (view pass.old)) }
     ensures pass { OnOk result (pass.new ≡ record pass.old { seat = pass.new.seat }) }
     ensures refused { OnErr result (pass.new ≡ pass.old) }
+    ensures next { OnOk result (P.is_next dealing.new (number + 1)) }
+    ensures count { P.count dealing.new ≡ P.count dealing.old }
+    ensures others { (n : ℕ) (lines : P.Lines) → P.begins dealing.new n lines → P.begins dealing.old n lines }
 {
+    let room = dealing.room(number);
+    let lines = dealing.lines_of(alloc, number)?;
     let answers = Vec::with_capacity(alloc, room as usize)?;
     let pass = store.split(alloc, pass)?;
     Ok(Worker::new(number, pass, lines, answers))
@@ -56,9 +60,7 @@ pub(crate) fn split_workers<R: RootPart<W, F>, P: Dealing, A: Copy, const W: u32
 {
     let mut all_workers = Vec::with_capacity(alloc, workers as usize)?;
     for number in 0..workers {
-        let room = dealing.room(number);
-        let lines = dealing.lines_of(number);
-        let Ok(worker) = split_worker(alloc, store, pass, number, lines, room) else {
+        let Ok(worker) = split_worker(alloc, store, pass, dealing, number) else {
             join_workers(store, pass, all_workers);
             return Err(NoMemory);
         };

@@ -1,4 +1,5 @@
 use Rattle.std.proofs.Common.{ℕ, List, length, ap, arith}
+use Rattle.tdb_base.specs.Lines.{mine}
 use Rattle.tdb_base.specs.declared.reply.Reply.{Reply}
 use Rattle.region_root.specs.declared.root.Regions.{Regions}
 use Rattle.region_root.specs.Compact.{compact}
@@ -36,7 +37,7 @@ returns-clause-ran g c =
     let split = c.in_ok-all_workers.ensures in
     let worked = c.work_at_once.ensures in
     let replies = c.place.new.answers.items in
-    insertion_run (compact g.row.W g.row.F) t.about c.args.trace.now replies c.args.workers c.args.block c.args.pass.now c.join_workers.new.pass
+    insertion_run (compact g.row.W g.row.F) t.about c.args.trace.now replies (mine (length c.args.trace.now) c.args.workers c.args.block) c.args.workers c.args.pass.now c.join_workers.new.pass
     (dealt_run (compact g.row.W g.row.F) t insertion c.args.trace.now c.len.result c.args.workers c.args.block c.len.ensures.count c.args.pass.now c.split_workers.new.pass
     c.in_ok-all_workers.all_workers.items c.work_at_once.new.all_workers.items split.split worked.worked worked.all
     (compact_refusals g.row.W g.row.F) c.join_workers.new.pass replies c.deref.result.now c.len-3.result c.deref.ensures.value c.len-3.ensures.count c.requires.workers.0 split.all

@@ -13,20 +13,18 @@ loop-number-preserved g c =
     let left = g.P.Lines.Supply.giving.left in
     let begins = g.P.Dealing.begins c.args.dealing.now in
     let inv = c.loop-number.invariant in
-    let dealt = c.lines_of-lines.ensures in
     let e = c.in-Ok.ensures in
     let old = c.loop-number.pass in
     let all_workers = c.loop-number.all_workers.items in
     let worker = c.in-Ok.worker in
     let number = c.loop-number.number in
-    let own : begins number c.lines_of-lines.result = inv.begins number c.lines_of-lines.result dealt.begins in
     let one : IsSplitWorker part t left begins (view old) number worker = record {
       number_is = e.split.number_is;
       rest = e.split.rest;
       view_is = e.split.view_is;
       unknown = e.split.unknown;
       no_tree = e.split.no_tree;
-      begins_so = subst (λ (s : g.row.P-Lines.Denot). begins number s) (sym e.split.begins_so) own;
+      begins_so = inv.begins number worker.lines e.split.begins_so;
       none_yet = e.split.none_yet;
       room = e.split.room;
     } in
@@ -36,9 +34,9 @@ loop-number-preserved g c =
       split = subst (λ (x : List (Worker g.row.R-View.Denot g.row.P-Lines.Denot g.row.A.Denot)). AreSplitWorkers part t left begins c.args.pass.now c.split_worker.new.pass x) (sym c.in-Ok-push.ensures.items) more;
       so_many = ap (λ (x : List (Worker g.row.R-View.Denot g.row.P-Lines.Denot g.row.A.Denot)). length x) c.in-Ok-push.ensures.items ∙ omega (arith, length-append all_workers (worker ∷ []), inv.so_many);
       room = omega (arith, c.in-Ok-push.ensures.capacity, inv.room);
-      next = dealt.next;
-      count = dealt.count ∙ inv.count;
-      begins = λ n s h. inv.begins n s (dealt.others n s h);
+      next = e.next;
+      count = e.count ∙ inv.count;
+      begins = λ n s h. inv.begins n s (e.others n s h);
     }
 
 pub returns-in_default-clause-refused : goal.returns-in_default-clause-refused
