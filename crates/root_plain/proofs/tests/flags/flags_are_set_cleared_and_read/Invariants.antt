@@ -3,8 +3,8 @@ use Rattle.pair_rule.specs.Rest.{AtRest}
 use Rattle.root_plain.specs.Plain.{plain}
 use Rattle.root_plain.proofs.tests.flags.flags_are_set_cleared_and_read.Given as goal
 
-abbrev pub invariant-loop-answer : goal.invariant-loop-answer
-invariant-loop-answer g l = record {
+abbrev pub invariant-loop-right : goal.invariant-loop-right
+invariant-loop-right g l = record {
   width : l.store.about.width ≡ 16;
   flags : l.store.about.flags ≡ 8;
   slots : l.store.about.slots ≡ 2;
