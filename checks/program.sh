@@ -99,10 +99,13 @@ check_names "a walk of 100,000 lines of big numbers' width" "$work/walk.csv" ins
 wants 'lines 100000\ndistinct 74191\n'
 check "drawn lines" 0 "" bench --lines 100000 --slots 32 --values 4 --seed 1 < /dev/null
 check "drawn lines by 8 workers" 0 "" bench --lines 100000 --slots 32 --values 4 --seed 1 --workers 8 < /dev/null
+check "drawn lines in compact mode" 0 "" bench --mode compact --lines 100000 --slots 32 --values 4 --seed 1 < /dev/null
+check "drawn lines in compact mode by 8 workers" 0 "" bench --mode compact --lines 100000 --slots 32 --values 4 --seed 1 --workers 8 < /dev/null
 
 LC_ALL=C sort -t, -k1,1n -k2,2n -u "$work/pairs.csv" > "$work/wanted"
 check "the different pairs of 200,000, beside sort" 0 "" distinct < "$work/pairs.csv"
 check "the same by 8 workers" 0 "" distinct --workers 8 < "$work/pairs.csv"
+check "the same by 8 workers in compact mode" 0 "" distinct --mode compact --workers 8 < "$work/pairs.csv"
 wants '3,5\n5,3\n'
 check "two different pairs" 0 "" distinct < examples/pairs.csv
 
@@ -112,11 +115,27 @@ wants_pairs examples/peterson.csv
 check "Peterson's protocol in compact mode, beside awk" 0 "" insert --mode compact < examples/peterson.csv
 wants_pairs "$work/pairs.csv"
 check "200,000 drawn pairs in compact mode, beside awk" 0 "" insert --mode compact < "$work/pairs.csv"
+check_names "a walk of 100,000 lines in compact mode by 64 workers, line by line" "$work/walk.csv" insert --mode compact --workers 64 --block 1
+
+# answers: a report without its identifiers
+answers() {
+  awk -F, -v OFS=, 'NF == 3 { $2 = "" } { print }'
+}
+./treedb insert < "$work/walk.csv" | answers > "$work/wanted"
+./treedb insert --mode compact < "$work/walk.csv" | answers > "$work/got"
+if [ -s "$work/wanted" ] && cmp -s "$work/got" "$work/wanted"; then
+  tell "a walk is answered alike in both modes" yes
+else
+  tell "a walk is answered alike in both modes" no "$(diff "$work/got" "$work/wanted" | head -n 5)"
+fi
+wants '1,5,new\n2,6,new\n3,196614,new\nlines 3\ndistinct 3\n'
+check "vectors of three slots in compact mode" 0 "" insert --mode compact --profile 16 < <(printf '5,0,0\n6,0,0\n6,0,1\n')
+wants '1,805306373,new\n2,1342177283,new\n3,805306373,seen\nlines 3\ndistinct 2\nnodes 0\nstored 15\nraw 16\n'
+check "statistics in compact mode" 0 "" insert --mode compact --stats < examples/pairs.csv
 
 wants ''
 check "no input" 3 "treedb: no records" insert < /dev/null
 check "a record of one field" 3 "treedb: record 2 has 1 fields, the first has 2" insert < <(printf '1,2\n1\n')
-check "a vector of three slots in compact mode" 3 "treedb: compact mode takes 2 slots" insert --mode compact < <(printf '1,2,3\n')
 check "a number that is too big" 3 "treedb: record 1 field 1 is too big" insert < <(printf '268435456,0\n')
 check "one byte over the limit" 4 "treedb: input is over 67108864 bytes" insert < <(head -c 67108865 /dev/zero | tr '\0' '0')
 usage='usage: treedb insert|distinct|bench|check [--mode plain|compact] [--profile 16|28|31]'
