@@ -1,13 +1,9 @@
 //! A region's words as they are reached one at a time: by a reader without the lock, and by a holder.
-ghost use Rattle.std.specs.Prelude.{◌≡◌, ◌<◌, ◌^◌, List};
-ghost use Rattle.cleary_core.specs.Answers.{Answered, Tells, TellsFlags, Decides, flagged};
-ghost use Rattle.cleary_core.specs.Cells.{word_count};
-ghost use Rattle.cleary_core.specs.Map.{Key, KeepsMap};
-ghost use Rattle.region_root.specs.Work.{CanRead, HasLoaded, ReadsOn, CanWrite, Rewrites, held_words};
+ghost use Rattle.std.specs.Prelude.{◌≡◌};
 
 use crate::root::{CompactRoot, Regions};
 use crate::steps::{load_held, load_peeked, store_held};
-use cleary_core::{ReadWords, Region, RegionFull, WriteWords};
+use cleary_core::{ReadWords, WriteWords};
 use pair_rule::{PairTable, PassOf};
 
 // A reader of a region whose words begin at `from`.
@@ -118,106 +114,4 @@ impl<'a, 'b, const W: u32, const F: u32> WriteWords for Holder<'a, 'b, W, F> {
     fn put(&mut self, place: usize, value: u64) {
         store_held(self.table, self.pass, self.from, place, value);
     }
-}
-
-// Whether a region's map has the key, as a reader finds it.
-#[inline]
-pub(crate) fn find_read<const W: u32, const F: u32>(
-    table: &PairTable<CompactRoot<W, F>, W, F>,
-    pass: &mut PassOf<Regions>,
-    region: &Region<W, F>,
-    from: usize,
-    home: u64,
-    quotient: u64,
-) -> bool
-    requires words { CanRead W F table.now from pass.old (word_count region.now) }
-    requires home { home < region.now.cells }
-    ensures reads { ReadsOn W F table.now pass.old pass.new }
-    ensures decided { Decides region.now (HasLoaded pass.new) home quotient result }
-{
-    let mut reader = Reader { table, pass, from };
-    region.find_in(&mut reader, home, quotient)
-}
-
-// The same, as the region's holder finds it.
-#[inline]
-pub(crate) fn find_held<const W: u32, const F: u32>(
-    table: &PairTable<CompactRoot<W, F>, W, F>,
-    pass: &mut PassOf<Regions>,
-    region: &Region<W, F>,
-    from: usize,
-    home: u64,
-    quotient: u64,
-) -> bool
-    requires words { CanWrite W F table.now from pass.old (word_count region.now) }
-    requires home { home < region.now.cells }
-    ensures same { pass.new ≡ pass.old }
-    ensures decided { (keys : List Key) → KeepsMap region.now (held_words pass.old) keys
-        → Tells result keys home quotient }
-{
-    let mut holder = Holder { table, pass, from };
-    region.find_in(&mut holder, home, quotient)
-}
-
-// Adds a key to the map of the held region.
-#[inline]
-pub(crate) fn insert_held<const W: u32, const F: u32>(
-    table: &PairTable<CompactRoot<W, F>, W, F>,
-    pass: &mut PassOf<Regions>,
-    region: &Region<W, F>,
-    from: usize,
-    home: u64,
-    quotient: u64,
-) -> Result<bool, RegionFull>
-    requires words { CanWrite W F table.now from pass.old (word_count region.now) }
-    requires home { home < region.now.cells }
-    requires quotient { quotient < 2 ^ region.now.quotient }
-    requires kept { (keys : List Key) × KeepsMap region.now (held_words pass.old) keys }
-    ensures rewrites { Rewrites W F table.now pass.old pass.new }
-    ensures answer { (keys : List Key) → KeepsMap region.now (held_words pass.old) keys
-        → Answered result region.now keys home quotient (held_words pass.new) }
-{
-    let mut holder = Holder { table, pass, from };
-    region.insert_in(&mut holder, home, quotient)
-}
-
-// The flags of a key of the held region.
-pub(crate) fn flags_held<const W: u32, const F: u32>(
-    table: &PairTable<CompactRoot<W, F>, W, F>,
-    pass: &mut PassOf<Regions>,
-    region: &Region<W, F>,
-    from: usize,
-    home: u64,
-    quotient: u64,
-) -> u64
-    requires words { CanWrite W F table.now from pass.old (word_count region.now) }
-    requires home { home < region.now.cells }
-    ensures same { pass.new ≡ pass.old }
-    ensures flags { (keys : List Key) → KeepsMap region.now (held_words pass.old) keys
-        → TellsFlags result keys home quotient }
-{
-    let mut holder = Holder { table, pass, from };
-    region.flags_in(&mut holder, home, quotient)
-}
-
-// Sets the flags of a key of the held region.
-pub(crate) fn set_flags_held<const W: u32, const F: u32>(
-    table: &PairTable<CompactRoot<W, F>, W, F>,
-    pass: &mut PassOf<Regions>,
-    region: &Region<W, F>,
-    from: usize,
-    home: u64,
-    quotient: u64,
-    value: u64,
-)
-    requires words { CanWrite W F table.now from pass.old (word_count region.now) }
-    requires home { home < region.now.cells }
-    requires value { value < 2 ^ region.now.flags }
-    requires kept { (keys : List Key) × KeepsMap region.now (held_words pass.old) keys }
-    ensures rewrites { Rewrites W F table.now pass.old pass.new }
-    ensures flagged { (keys : List Key) → KeepsMap region.now (held_words pass.old) keys
-        → KeepsMap region.now (held_words pass.new) (flagged home quotient value keys) }
-{
-    let mut holder = Holder { table, pass, from };
-    region.set_flags_in(&mut holder, home, quotient, value)
 }

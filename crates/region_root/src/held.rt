@@ -7,10 +7,10 @@ ghost use Rattle.region_root.specs.Layout.{place, IsPacked, KeepsRoots};
 ghost use Rattle.region_root.specs.Maps.{with_flag_set};
 ghost use Rattle.region_root.specs.Work.{AtWork, Added, Rewrites, held_words};
 
-use crate::access::{find_held, flags_held, insert_held, set_flags_held};
+use crate::access::Holder;
 use crate::root::CompactRoot;
-use crate::words::region_start;
-use cleary_core::{Region, RegionFull};
+use crate::words::region_at;
+use cleary_core::RegionFull;
 use mix_hash::Place;
 use pair_rule::{PairTable, Pass};
 
@@ -29,10 +29,8 @@ pub(crate) fn add_root<const W: u32, const F: u32>(
     ensures added { (h : Holding) → (view pass.old).root.held ≡ h ∷ []
         → Added table.now.about pair result h.base (held_words pass.new) }
 {
-    let sizes = table.sizes();
-    let region = Region::<W, F>::over(sizes.roots, sizes.region);
-    let from = region_start(table, at.region);
-    insert_held(table, pass, &region, from, at.home, at.quotient)
+    let (region, from) = region_at(table, at.region);
+    region.insert_in(&mut Holder { table, pass, from }, at.home, at.quotient)
 }
 
 // Whether the held region has the root.
@@ -50,10 +48,8 @@ pub(crate) fn has_root<const W: u32, const F: u32>(
     ensures found { (h : Holding) → (view pass.old).root.held ≡ h ∷ []
         → MatchBool result ((f : ℕ) × Has (pair, f) h.base) ((f : ℕ) → Has (pair, f) h.base → ⊥) }
 {
-    let sizes = table.sizes();
-    let region = Region::<W, F>::over(sizes.roots, sizes.region);
-    let from = region_start(table, at.region);
-    find_held(table, pass, &region, from, at.home, at.quotient)
+    let (region, from) = region_at(table, at.region);
+    region.find_in(&mut Holder { table, pass, from }, at.home, at.quotient)
 }
 
 // The flags of a root that the held region has.
@@ -70,10 +66,8 @@ pub(crate) fn root_flags<const W: u32, const F: u32>(
     ensures flags { (h : Holding) → (view pass.old).root.held ≡ h ∷ [] → (f : ℕ) → Has (pair, f) h.base
         → (result ≡ f) × (f < 2 ^ table.now.about.flags) }
 {
-    let sizes = table.sizes();
-    let region = Region::<W, F>::over(sizes.roots, sizes.region);
-    let from = region_start(table, at.region);
-    flags_held(table, pass, &region, from, at.home, at.quotient)
+    let (region, from) = region_at(table, at.region);
+    region.flags_in(&mut Holder { table, pass, from }, at.home, at.quotient)
 }
 
 // Sets the flags of a root of the held region.
@@ -92,8 +86,7 @@ pub(crate) fn set_root_flags<const W: u32, const F: u32>(
     ensures flagged { (h : Holding) → (view pass.old).root.held ≡ h ∷ []
         → KeepsRoots table.now.about (held_words pass.new) (with_flag_set pair value h.base) }
 {
-    let sizes = table.sizes();
-    let region = Region::<W, F>::over(sizes.roots, sizes.region);
-    let from = region_start(table, at.region);
-    set_flags_held(table, pass, &region, from, at.home, at.quotient, value);
+    let (region, from) = region_at(table, at.region);
+    let mut holder = Holder { table, pass, from };
+    region.set_flags_in(&mut holder, at.home, at.quotient, value);
 }

@@ -4,16 +4,15 @@ ghost use Rattle.packed_word.specs.Word.{pair_of};
 ghost use Rattle.pair_rule.specs.Calls.{IsSomeRoot};
 ghost use Rattle.pair_rule.specs.Rest.{AtRest, view};
 ghost use Rattle.region_root.specs.declared.root.Reading.{Reading};
-ghost use Rattle.region_root.specs.Layout.{place, IsPacked};
+ghost use Rattle.region_root.specs.Layout.{place, regions, IsPacked};
 ghost use Rattle.region_root.specs.Compact.{IsEven, IsOdd, last, Looked, compact};
 ghost use Rattle.region_root.specs.Told.{FindsRoot, PeekTold, finds, ticked};
 ghost use Rattle.region_root.specs.Work.{ReadsOn};
 
-use crate::access::find_read;
+use crate::access::Reader;
 use crate::root::CompactRoot;
 use crate::steps::{close_peek, open_peek};
-use crate::words::{pack_root, region_start, root_place};
-use cleary_core::Region;
+use crate::words::{pack_root, region_at, root_place};
 use mix_hash::Place;
 use pair_nodes::Nodes;
 use pair_rule::{PairTable, Pass};
@@ -54,15 +53,14 @@ fn look_for<const W: u32, const F: u32>(
     at: &Place,
 ) -> bool
     requires root { IsPacked table.now.about pair × (at.now ≡ place table.now.about pair) }
+    requires inside { at.now.region < regions table.now.about }
     requires rest { AtRest (compact W F) table.now pass.old }
     requires reader { (q : Reading) × ((view pass.old).root.reader ≡ q ∷ []) × (q.region ≡ at.now.region) }
     ensures reads { ReadsOn W F table.now pass.old pass.new }
     ensures finds { FindsRoot table.now.about pair pass.new result }
 {
-    let sizes = table.sizes();
-    let region = Region::<W, F>::over(sizes.roots, sizes.region);
-    let from = region_start(table, at.region);
-    find_read(table, pass, &region, from, at.home, at.quotient)
+    let (region, from) = region_at(table, at.region);
+    region.find_in(&mut Reader { table, pass, from }, at.home, at.quotient)
 }
 
 // One look at the root's region.

@@ -6,7 +6,7 @@ ghost use Rattle.pair_rule.specs.Part.{IsTable};
 ghost use Rattle.pair_rule.specs.Plays.{first_root};
 ghost use Rattle.region_root.specs.Compact.{compact};
 ghost use Rattle.region_root.specs.Layout.{IsSized, region_count, region_words, regions, start, words_each};
-ghost use Rattle.region_root.specs.Layout.{IsPacked, place};
+ghost use Rattle.region_root.specs.Layout.{IsPacked, cells_of, place};
 
 use crate::root::CompactRoot;
 use cleary_core::Region;
@@ -119,6 +119,22 @@ pub(crate) fn region_start<const W: u32, const F: u32>(
     let sizes = table.sizes();
     let before = count_regions(sizes) + region as usize * count_words::<W, F>(sizes);
     first_word(sizes.nodes) + before
+}
+
+// A region as a map of its words, and where these begin.
+#[inline]
+pub(crate) fn region_at<const W: u32, const F: u32>(
+    table: &PairTable<CompactRoot<W, F>, W, F>,
+    region: u64,
+) -> (Region<W, F>, usize)
+    requires { region < regions table.now.about }
+    ensures cells { result.0 ≡ cells_of table.now.about }
+    ensures begins { result.1 ≡ first_root table.now.about + start table.now.about region }
+    ensures store { IsTable W F (compact W F) table.now }
+{
+    let sizes = table.sizes();
+    let from = region_start(table, region);
+    (Region::over(sizes.roots, sizes.region), from)
 }
 
 // Where the root belongs, which is a packed pair.

@@ -1,36 +1,37 @@
-use Rattle.std.proofs.Common.{arith, sym, subst, ℕ, List}
+use Rattle.std.proofs.Common.{arith, sym, ap, ◌∙◌, get_or, subst, ℕ, List}
 use Rattle.std.specs.Prelude.{MatchBool}
 use Rattle.tree_shape.specs.Tree.{Has}
 use Rattle.pair_rule.specs.Rest.{view}
 use Rattle.region_root.specs.declared.root.Holding.{Holding}
 use Rattle.region_root.specs.Layout.{KeepsRoots}
 use Rattle.region_root.specs.Maps.{InRegion}
-use Rattle.region_root.specs.Reached.{held_is}
+use Rattle.region_root.specs.Reached.{held_is, words_long}
 use Rattle.region_root.specs.Work.{held_words}
 use Rattle.mix_hash.specs.declared.Place.{Place}
 use Rattle.region_root.proofs.Catching.{head_of}
 use Rattle.region_root.proofs.Keys.{home_inside, root_told}
-use Rattle.region_root.proofs.Tables.{is_compact, cells_are}
+use Rattle.region_root.proofs.Tables.{is_compact}
 use Rattle.region_root.proofs.Writing.{can_write}
 use Rattle.region_root.proofs.held.has_root.Goals as goal
 
-pub find_held-requires : goal.find_held-requires
-find_held-requires g c =
+pub find_in-requires : goal.find_in-requires
+find_in-requires g c =
     let store = c.args.table.now in
-    let is = is_compact g.row.W g.row.F store c.sizes-sizes.ensures.store in
+    let is = is_compact g.row.W g.row.F store c.region_at-region.ensures.store in
     let w = c.requires.work in
-    let z = cells_are g.row.W g.row.F store c.sizes-sizes.ensures.store c.sizes-sizes.result.now c.over-region.result c.sizes-sizes.ensures.sizes c.over-region.ensures.sizes in
-    (omega arith, (omega arith, (omega arith, (can_write g.row.W g.row.F store c.args.pass.now w.0 c.over-region.result c.args.at.now.region c.region_start-from.result z w.1 w.2 c.region_start-from.ensures.place, home_inside store.about is c.args.pair c.requires.root.0 c.over-region.result z c.args.at.now c.requires.root.1))))
+    let z = c.region_at-region.ensures.cells in
+    (omega arith, (can_write g.row.W g.row.F store c.args.pass.now w.0 c.region_at-region.result.0 c.args.at.now.region c.region_at-region.result.1 z w.1 w.2 c.region_at-region.ensures.begins, home_inside store.about is c.args.pair c.requires.root.0 c.region_at-region.result.0 z c.args.at.now c.requires.root.1))
 
 pub returns-clause-found : goal.returns-clause-found
 returns-clause-found g c = λ h held.
     let store = c.args.table.now in
     let about = store.about in
-    let is = is_compact g.row.W g.row.F store c.sizes-sizes.ensures.store in
+    let is = is_compact g.row.W g.row.F store c.region_at-region.ensures.store in
     let w = c.requires.work in
-    let z = cells_are g.row.W g.row.F store c.sizes-sizes.ensures.store c.sizes-sizes.result.now c.over-region.result c.sizes-sizes.ensures.sizes c.over-region.ensures.sizes in
+    let z = c.region_at-region.ensures.cells in
+    let long = words_long g.row.W g.row.F store c.region_at-region.result.1 c.args.pass.now _ (can_write g.row.W g.row.F store c.args.pass.now w.0 c.region_at-region.result.0 c.args.at.now.region c.region_at-region.result.1 z w.1 w.2 c.region_at-region.ensures.begins) in
     let one = head_of w.0 h (view c.args.pass.now).root.held w.1.held held in
     let keeps = subst (λ (l : List ℕ). KeepsRoots about l w.0.base) (sym (held_is c.args.pass.now w.0 w.1.held)) w.3 in
     let inside = subst (λ (p : Place). InRegion about p.region w.0.base) c.requires.root.1 (subst (λ (k : ℕ). InRegion about k w.0.base) w.2 w.1.inside) in
-    subst (λ (u : Holding). MatchBool c.find_held.result ((f : ℕ) × Has (c.args.pair, f) u.base) ((f : ℕ) → Has (c.args.pair, f) u.base → ⊥)) one
-    (root_told about is c.args.pair c.requires.root.0 c.over-region.result z c.args.at.now c.requires.root.1 c.find_held.result (held_words c.args.pass.now) w.0.base keeps inside c.find_held.ensures.decided)
+    subst (λ (u : Holding). MatchBool c.find_in.result ((f : ℕ) × Has (c.args.pair, f) u.base) ((f : ℕ) → Has (c.args.pair, f) u.base → ⊥)) one
+    (root_told about is c.args.pair c.requires.root.0 c.region_at-region.result.0 z c.args.at.now c.requires.root.1 c.find_in.result (held_words c.args.pass.now) w.0.base keeps inside (λ keys kept. c.find_in.ensures.decided (held_words c.args.pass.now) keys long (λ i m h. sym (ap (λ p. get_or (held_words p) i 0) c.find_in.ensures.reads.3) ∙ h) kept))

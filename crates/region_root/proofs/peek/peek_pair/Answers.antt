@@ -12,7 +12,7 @@ returns-then-not-is_believable-clause-told g c =
 
 pub look_for-found-requires : goal.look_for-found-requires
 look_for-found-requires g c =
-    (omega arith, (omega arith, ((c.requires.packed, c.root_place-at.ensures.same), (c.open_peek-first.ensures.rest, (reading c.root_place-at.result.region c.args.pair c.open_peek-first.result, ap (λ v. v.root.reader) c.open_peek-first.ensures.view, refl)))))
+    (omega arith, (omega arith, ((c.requires.packed, c.root_place-at.ensures.same), (c.root_place-at.ensures.region, (c.open_peek-first.ensures.rest, (reading c.root_place-at.result.region c.args.pair c.open_peek-first.result, ap (λ v. v.root.reader) c.open_peek-first.ensures.view, refl))))))
 
 pub close_peek-requires : goal.close_peek-requires
 close_peek-requires g c =
