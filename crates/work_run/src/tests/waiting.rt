@@ -78,6 +78,26 @@ fn run<R: Threads + Wait + Abort + Sync, G: Gate>(
     Ok(replies)
 }
 
+// The line is found under its identifier, if it has one.
+fn read_back<R: Wait + Abort>(
+    rt: &R,
+    store: &Store,
+    pass: &mut StorePass,
+    line: &[u32],
+    reply: Reply,
+)
+    requires slots { store.now.about.slots ≡ 3 }
+    requires rest { AtRest (compact 28 7) store.now pass.old }
+    ensures { AtRest (compact 28 7) store.now pass.new }
+{
+    let Some(id) = reply.id() else {
+        return;
+    };
+    let mut out = [9; 3];
+    assert!(rt; store.lookup(rt, pass, id, &mut out));
+    assert!(rt; out[..] == line[..]);
+}
+
 // All lines that have an identifier are found under it.
 fn read_all_back<R: Wait + Abort>(
     rt: &R,
@@ -92,11 +112,7 @@ fn read_all_back<R: Wait + Abort>(
 {
     assert!(rt; store.slots() == 3);
     for i in 0..trace.len() {
-        if let Some(id) = replies[i as usize].id() {
-            let mut out = [9; 3];
-            assert!(rt; store.lookup(rt, pass, id, &mut out));
-            assert!(rt; out[..] == trace.line(i)[..]);
-        }
+        read_back(rt, store, pass, trace.line(i), replies[i as usize]);
     }
 }
 
