@@ -1,7 +1,9 @@
 //! The lines of workers against the definition, tried line by line.
 
 mod crowd;
+mod drawn;
 mod schedules;
+mod waiting;
 
 use super::dealt::{Dealt, Owners};
 use super::line_of;

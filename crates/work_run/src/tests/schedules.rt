@@ -96,7 +96,7 @@ fn digit(state: &mut u64) -> u8 {
 }
 
 // Forty lines of digits, many of them equal.
-fn forty_lines(alloc: Global, slots: usize, state: &mut u64) -> Result<Vec<u8>, Fail> {
+pub(crate) fn forty_lines(alloc: Global, slots: usize, state: &mut u64) -> Result<Vec<u8>, Fail> {
     let mut text = Vec::new(alloc);
     for _ in 0..40u64 {
         for slot in 0..slots {
@@ -131,7 +131,7 @@ fn fresh_among(trace: &Trace, replies: &[Reply], i: u64) -> Option<u64>
 
 // Each vector that has a name was named once, and no two have one name: how many names there are, and how
 // many lines have none.
-fn count_names(rt: &impl Abort, trace: &Trace, replies: &[Reply]) -> (u64, u64)
+pub(crate) fn count_names(rt: &impl Abort, trace: &Trace, replies: &[Reply]) -> (u64, u64)
     requires { length replies.now ≡ length trace.now }
 {
     let mut names = 0u64;
@@ -168,7 +168,7 @@ fn read_back(rt: &impl Abort, store: &Store, pass: &mut StorePass, line: &[u32],
 }
 
 // All lines are.
-fn read_all_back(
+pub(crate) fn read_all_back(
     rt: &impl Abort,
     store: &Store,
     pass: &mut StorePass,
