@@ -63,7 +63,7 @@ for trace in M R; do
   head -$lines "$out/t/$trace" > "$out/head"
   count "$program" insert < "$out/head"
   reading=$(($(within 'input::bytes_of') + $(within 'input::lines_of')))
-  printing=$(($(within 'job::do_job') - reading - $(within 'fill::insert_lines')))
+  printing=$(within 'output::write_answered')
   echo "| treedb, $trace | $((reading / lines)) |$(phase 'thread::fork' $lines) $((printing / lines)) |"
   count "$out/treeyard" insert < "$out/head"
   echo "| twin, $trace |$(phase ':parse[(]' $lines)$(phase 'lambda[(]unsigned long[)]#2' $lines)$(phase 'write_replies' $lines)"
