@@ -1,5 +1,6 @@
 //! An input as it comes in, to its end.
-ghost use Rattle.std.specs.Prelude.{◌≡◌, ◌≤◌, ◌+◌, ◌++◌, IfOk, OnOk, IfSome, IsErrOf, length, vec_len};
+ghost use Rattle.std.specs.Prelude.{◌≡◌, ◌≤◌, ◌<◌, ◌+◌, ◌++◌, [], IfOk, OnOk, OnErr, IfSome, IsErrOf};
+ghost use Rattle.std.specs.Prelude.{length, vec_capacity, vec_len};
 ghost use Rattle.std.specs.Io.KnownBytes.{IsAtEnd};
 ghost use Rattle.tdb_base.specs.Causes.{Rose};
 ghost use Rattle.trace_csv.specs.Input.{ReadsWithin, limit};
@@ -37,34 +38,56 @@ pub fn read_all<S: Source>(alloc: Global, source: &mut S) -> Result<Vec<u8>, InE
     ensures fault { IsErrOf result InError.ReadFault → Rose (S.faults source.old) (S.faults source.new) }
 {
     let mut all = Vec::new(alloc);
+    read_to_end(source, &mut all)?;
+    Ok(all)
+}
+
+// Every byte that the source has left, into a list that is empty.
+//
+// `NoMemory` comes only where the list has no room for what one read gives.
+fn read_to_end<S: Source>(source: &mut S, all: &mut Vec<u8>) -> Result<(), InError>
+    requires { all.old.items ≡ [] }
+    ensures bytes { OnOk result (IfSome (S.left source.old) (λ b. all.new.items ≡ b)) }
+    ensures end { OnOk result (IsAtEnd (S.left source.new)) }
+    ensures within { OnOk result (vec_len all.new ≤ limit) }
+    ensures gave { ReadsWithin (S.left source.old) (S.left source.new) result }
+    ensures later { S.faults source.old ≤ S.faults source.new }
+    ensures fault { IsErrOf result InError.ReadFault → Rose (S.faults source.old) (S.faults source.new) }
+    ensures memory { IsErrOf result InError.NoMemory → vec_capacity all.new < vec_len all.new + 65536 }
+{
     let mut buffer = [0u8; ROOM];
     for _turn in 0..LIMIT + 1 {
         let Ok(count) = source.read(&mut buffer) else {
             return Err(InError::ReadFault);
         };
         if count == 0 {
-            return Ok(all);
+            return Ok(());
         }
         if count > LIMIT - all.len() {
             return Err(InError::TooMuch);
         }
-        if add_piece(&buffer[..count], &mut all).is_err() {
+        if add_piece(&buffer[..count], all).is_err() {
             return Err(InError::NoMemory);
         }
     }
     unreachable!()
 }
 
-// Adds a piece to what was read.
+// Adds a piece to what was read, and fails only where there is no room for it.
 //
 // Where a second piece has no room, room for all that may come is asked for at once, so that no byte is moved
 // more than once. Where there isn't so much, the list grows as it fills.
 fn add_piece(piece: &[u8], all: &mut Vec<u8>) -> Result<(), AllocError>
     requires { vec_len all.old + length piece.now ≤ limit }
-    ensures { OnOk result (all.new.items ≡ all.old.items ++ piece.now) }
+    ensures added { OnOk result (all.new.items ≡ all.old.items ++ piece.now) }
+    ensures memory { OnErr result (vec_capacity all.new < vec_len all.new + length piece.now) }
 {
     if !all.is_empty() && all.capacity() - all.len() < piece.len() {
         let _ = all.reserve_exact(LIMIT - all.len());
     }
-    all.extend_from_slice(piece)
+    all.reserve(piece.len())?;
+    let Ok(()) = all.extend_from_slice(piece) else {
+        unreachable!()
+    };
+    Ok(())
 }

@@ -17,6 +17,9 @@ fn inputs_are_read_to_their_end(rt: HostRuntime) -> Result<(), Fail> {
     assert_eq!(rt; all.as_slice(), b"3,5\n".as_slice());
     let mut source = MemSource::new(b"3,5\n".to_vec(alloc)?, vec![in alloc; 3u64]?, 2);
     assert!(rt; matches!(read_all(alloc, &mut source), Err(InError::ReadFault)));
+    let mut source = MemSource::new(vec![in alloc; b'0'; 100_000]?, Vec::new(alloc), 1);
+    let all = read_all(alloc, &mut source).expect(&rt, "a byte at a time");
+    assert_eq!(rt; all.len(), 100_000);
     let mut source = SureSource::new(vec![in alloc; b'0'; 67_108_864]?);
     let all = read_all(alloc, &mut source).expect(&rt, "the limit");
     assert_eq!(rt; all.len(), 67_108_864);

@@ -45,7 +45,7 @@ static BY_CSV: [Good; 13] = [
     (b"1,2\n3,\"4\"", 28, &[1, 2, 3, 4], 2),
 ];
 
-static REFUSED: [Bad; 37] = [
+static REFUSED: [Bad; 38] = [
     (b"", 28, TraceError::NoRecords),
     (b"\n\r\n\r\n", 28, TraceError::NoRecords),
     (b"\xef\xbb\xbf", 28, TraceError::NoRecords),
@@ -75,6 +75,7 @@ static REFUSED: [Bad; 37] = [
     (b"65536,0", 16, TraceError::TooBig(1, 1)),
     (b"9999999999,0", 31, TraceError::TooBig(1, 1)),
     (b"00000000001,1", 28, TraceError::NotANumber(1, 1)),
+    (b"12345678901,1", 31, TraceError::NotANumber(1, 1)),
     (b"1,2\n3,00000000004\n", 28, TraceError::NotANumber(2, 2)),
     (b"1 2,3", 28, TraceError::NotANumber(1, 1)),
     (b"\t1,2", 28, TraceError::NotANumber(1, 1)),
@@ -174,13 +175,13 @@ fn wide_and_long_traces_are_read_both_ways(rt: HostRuntime) -> Result<(), Fail> 
         )
     );
     let mut long = Vec::new(alloc);
-    for _ in 0..150_000 {
+    for _ in 0..500_000 {
         long.extend_from_slice(b"1,0\n")?;
     }
     assert!(rt; read_directly(alloc, &long, 3).is_some());
-    assert_eq!(rt; sizes_of(&rt, alloc, &long), (150_000, 2));
+    assert_eq!(rt; sizes_of(&rt, alloc, &long), (500_000, 2));
     long.extend_from_slice(b"1,\"0\"")?;
     assert!(rt; read_directly(alloc, &long, 3).is_none());
-    assert_eq!(rt; sizes_of(&rt, alloc, &long), (150_001, 2));
+    assert_eq!(rt; sizes_of(&rt, alloc, &long), (500_001, 2));
     Ok(())
 }

@@ -1,7 +1,7 @@
 use Rattle.std.proofs.Common.{arith, ◌≡◌, ◌≤◌, ◌<◌, ◌++◌, take, length, length-append, refl}
 use Rattle.trace_csv.specs.Input.{limit}
 use Rattle.trace_csv.proofs.InputLemmas.{consumes-more}
-use Rattle.trace_csv.proofs.input.read_all.Goals as goal
+use Rattle.trace_csv.proofs.input.read_to_end.Goals as goal
 
 pub returns-then-count-len-clause-gave : goal.returns-then-count-len-clause-gave
 returns-then-count-len-clause-gave g c =

@@ -1,7 +1,7 @@
 use Rattle.std.proofs.Common.{◌≤◌, vec_len}
 use Rattle.std.specs.Io.KnownBytes.{Consumes}
 use Rattle.trace_csv.specs.Input.{limit}
-use Rattle.trace_csv.proofs.input.read_all.Given as goal
+use Rattle.trace_csv.proofs.input.read_to_end.Given as goal
 
 abbrev pub invariant-loop-turn : goal.invariant-loop-turn
 invariant-loop-turn g l = record {
