@@ -1,6 +1,7 @@
 -- What one line's insertion leaves, and several lines' one after the other.
 use Rattle.std.proofs.Common.{◌≡◌, ◌⊎◌, ℕ, zero, suc, ◌+◌, ◌≤◌, List, [], ◌∷◌, ◌++◌, length, Bool, true, false, Option, Some, refl, sym, ap, ◌∙◌, subst, inl, inr, ⊎_elim, arith, append-nil, append_assoc, length-append, eq-eqb}
-use Rattle.std.specs.Prelude.{slice_get}
+use Rattle.std.specs.Prelude.{slice_get, cond}
+use Rattle.std.proofs.lemmas.List.Sums.{sum_by-append}
 use Rattle.tree_shape.specs.Tree.{Has, IsPart}
 use Rattle.tree_shape.proofs.Trees.{stands_more}
 use Rattle.tdb_base.specs.History.{Vector, History, calls}
@@ -19,7 +20,7 @@ use Rattle.pair_rule.specs.Calls.{call}
 use Rattle.pair_nodes.specs.Roots.{Refusals}
 use Rattle.tree_store.specs.Vectors.{puts_after, Gained}
 use Rattle.tree_store.specs.Store.{NeverNamed, Advanced, KeepsLastTree, IsAnswered}
-use Rattle.work_run.specs.Full.{Barred, IsOfOne}
+use Rattle.work_run.specs.Full.{Barred, IsOfOne, is_full_inside, full_inside}
 use Rattle.work_run.specs.Inserted.{last_after, last_of, puts_of, Inserted}
 use Rattle.work_run.specs.Telling.{insertion}
 
@@ -78,12 +79,18 @@ module _ {T : Type 0} (part : Part T) (store : Store) (v : Vector) (p q : PassOf
       (λ (old : Has i (view p).made). inl old)
       (has_either i g.more (view p).made (subst (λ (x : List ℕ). Has i x) g.made h))
 
+  few_by : (most : ℕ) → Gained store.about v most (view p) (view q) → (reply : Reply) (inside : ℕ) → full_inside (reply ∷ []) ≡ inside → most + inside + (view p).probes ≤ (view q).probes
+      → length (view q).made + full_inside (reply ∷ []) + (view p).probes ≤ length (view p).made + (view q).probes
+  few_by most g reply inside is few =
+      let long = ap (λ (l : List ℕ). length l) g.made ∙ length-append g.more (view p).made in
+      omega (arith, long, g.few, is, few)
+
   -- a call that is one entry of the history
-  named_one : (fresh : Bool) (id : ℕ) (reply : Reply) → insertion.entries (view p).number v reply ≡ call (view p).number fresh v id ∷ [] → is_full reply ≡ false → Barred part store.about (view q).known (root_pairs part (view q)) v reply
+  named_one : (fresh : Bool) (id : ℕ) (reply : Reply) → insertion.entries (view p).number v reply ≡ call (view p).number fresh v id ∷ [] → is_full reply ≡ false → full_inside (reply ∷ []) ≡ 0 → Barred part store.about (view q).known (root_pairs part (view q)) v reply
       → AtRest part store p → AtRest part store q → Advanced part (call (view p).number fresh v id ∷ []) (view p) (view q) → last_vector q ≡ Some v
       → Gained store.about v (puts_after store.about (last_vector p) v) (view p) (view q) → (view q).probes ≡ (view p).probes + puts_after store.about (last_vector p) v
       → Inserted part store (v ∷ []) (reply ∷ []) (λ c. insertion.entries c v reply) p q
-  named_one fresh id reply entry named barred rp rq k last gained probes = record {
+  named_one fresh id reply entry named inside barred rp rq k last gained probes = record {
     one_each = refl;
     rest = rq;
     face_is = k.face_is;
@@ -96,16 +103,17 @@ module _ {T : Type 0} (part : Part T) (store : Store) (v : Vector) (p q : PassOf
     made = made_by (puts_after store.about (last_vector p) v) gained;
     last = last ∙ sym (rw named refl);
     probes = omega (arith, probes);
+    few_made = few_by (puts_after store.about (last_vector p) v) gained reply 0 inside (omega (arith, probes));
   }
 
   -- a call for which there was no place
-  full_one : (most : ℕ) (reply : Reply) → is_full reply ≡ true → insertion.entries (view p).number v reply ≡ [] → AtRest part store p → AtRest part store q
+  full_one : (most inside : ℕ) (reply : Reply) → full_inside (reply ∷ []) ≡ inside → most + inside + (view p).probes ≤ (view q).probes → is_full reply ≡ true → insertion.entries (view p).number v reply ≡ [] → AtRest part store p → AtRest part store q
       → face (view q) ≡ face (view p) → Extends (view p).seen (view q).seen → IsPart (view p).known (view q).known → IsPart (root_pairs part (view p)) (root_pairs part (view q))
       → calls (view q).seen (view p).number ≡ calls (view p).seen (view p).number ++ []
       → Gained store.about v most (view p) (view q) → (view q).probes ≤ (view p).probes + puts_after store.about (last_vector p) v
       → KeepsLastTree p q → NeverNamed part store q v → Barred part store.about (view q).known (root_pairs part (view q)) v reply
       → Inserted part store (v ∷ []) (reply ∷ []) (λ c. insertion.entries c v reply) p q
-  full_one most reply full entry rp rq face_is seen known roots own gained probes keeps never barred = record {
+  full_one most inside reply inside_is spent full entry rp rq face_is seen known roots own gained probes keeps never barred = record {
     one_each = refl;
     rest = rq;
     face_is = face_is;
@@ -118,16 +126,17 @@ module _ {T : Type 0} (part : Part T) (store : Store) (v : Vector) (p q : PassOf
     made = made_by most gained;
     last = keeps.vector ∙ sym (rw full refl);
     probes = omega (arith, probes);
+    few_made = few_by most gained reply inside inside_is spent;
   }
 
   pub one_inserted : (reply : Reply) → AtRest part store p → AtRest part store q → IsAnswered part store (last_vector p) v reply p q → Inserted part store (v ∷ []) (reply ∷ []) (λ c. insertion.entries c v reply) p q
-  one_inserted (r.New id) rp rq a = named_one true id (r.New id) refl refl tt rp rq a.call_is a.last_is a.nodes a.probes
-  one_inserted (r.Seen id) rp rq a = named_one false id (r.Seen id) refl refl tt rp rq a.call_is a.last_is a.nodes a.probes
+  one_inserted (r.New id) rp rq a = named_one true id (r.New id) refl refl refl tt rp rq a.call_is a.last_is a.nodes a.probes
+  one_inserted (r.Seen id) rp rq a = named_one false id (r.Seen id) refl refl refl tt rp rq a.call_is a.last_is a.nodes a.probes
   one_inserted r.FullNodes rp rq a =
       let n = a.refused in
       let w = n.grown in
       let few : (view q).probes ≤ (view p).probes + puts_after store.about (last_vector p) v = omega (arith, n.probes_are, n.fewer) in
-      full_one n.puts r.FullNodes refl refl rp rq w.face_is
+      full_one n.puts 1 r.FullNodes refl (omega (arith, n.probes_are)) refl refl rp rq w.face_is
       (subst (λ (h : History). Extends (view p).seen h) (sym w.seen) (extends_refl (view p).seen)) w.known
       (subst (λ (pairs : List (ℕ × ℕ)). IsPart (root_pairs part (view p)) pairs) (λ i. part.roots (sym w.about i) (sym w.seen i) (sym w.root i)) (λ i x h. h))
       (ap (λ (h : History). calls h (view p).number) w.seen ∙ sym (append-nil (calls (view p).seen (view p).number)))
@@ -135,7 +144,7 @@ module _ {T : Type 0} (part : Part T) (store : Store) (v : Vector) (p q : PassOf
   one_inserted r.FullRoots rp rq a =
       let c = a.no_call in
       let few : (view q).probes ≤ (view p).probes + puts_after store.about (last_vector p) v = omega (arith, a.probes) in
-      full_one (puts_after store.about (last_vector p) v) r.FullRoots refl refl rp rq c.face_is
+      full_one (puts_after store.about (last_vector p) v) 0 r.FullRoots refl (omega (arith, a.probes)) refl refl rp rq c.face_is
       (extends_trans (view p).seen c.log (view q).seen c.begins (record { more = []; whole = c.seen })) c.known c.roots
       (uncalled rp.seat.sound.mine c) a.nodes few a.last_stays a.for_good a.blocked
 
@@ -189,6 +198,7 @@ module _ {T : Type 0} (part : Part T) (refusals : Refusals part) (store : Store)
     made = λ i h. inl h;
     last = refl;
     probes = omega arith;
+    few_made = omega arith;
   }
 
   -- a vector has no name for good
@@ -224,6 +234,8 @@ module _ {T : Type 0} (part : Part T) (refusals : Refusals part) (store : Store)
         probes = (let e = puts_more store.about (last_vector p) vectors replies v reply a.one_each in
             let f = ap (λ (o : Option Vector). puts_after store.about o v) a.last in
             omega (arith, a.probes, b.probes, e, f));
+        few_made = (let e = sum_by-append (λ (r : Reply). cond (is_full_inside r) 1 0) replies (reply ∷ []) in
+            omega (arith, a.few_made, b.few_made, e));
       }
     where
       of_never : (i : ℕ) (u : Vector) (s : Reply) → is_full s ≡ true → AtPush vectors replies v reply i u s → NeverNamed part store w u

@@ -8,6 +8,8 @@ pub mod SplitInTurn
 pub mod Answered
 pub mod Running
 pub mod Few
+pub mod Filled
+pub mod EnoughRoots
 pub mod Owned
 pub mod Telling
 pub mod TakenLines

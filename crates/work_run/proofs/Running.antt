@@ -1,17 +1,18 @@
 -- What a run leaves: workers are split, insert their lines, and are dismissed.
 use Rattle.std.proofs.Common.{◌≡◌, ◌⊎◌, ℕ, zero, suc, ◌+◌, ◌<◌, ◌≤◌, List, [], ◌∷◌, ◌++◌, length, get_or, map, false, Option, Some, None, refl, sym, ap, ◌∙◌, subst, inl, inr, ⊎_elim, arith, length-append}
-use Rattle.std.specs.Prelude.{All, Contains, flat_map, slice_get, sum}
+use Rattle.std.specs.Prelude.{All, Contains, cond, flat_map, slice_get, sum}
 use Rattle.std.specs.List.{range_with_len}
 use Rattle.std.proofs.lemmas.List.FromFn.{length-map-range_with_len}
 use Rattle.std.proofs.lemmas.List.{get_or-map, length-map, nil_from_length}
 use Rattle.std.proofs.lemmas.List.Sums.{sum_by-cons}
-use Rattle.std.proofs.lemmas.Option.{slice_get_within}
+use Rattle.std.proofs.lemmas.Option.{slice_get_within, slice_get-get_or}
 use Rattle.tree_shape.specs.Tree.{Has, IsPart}
 use Rattle.tdb_base.specs.Agrees.{AgreesOverAmongOthers}
 use Rattle.tdb_base.specs.History.{Vector, Entry, History, calls}
 use Rattle.tdb_base.specs.Legal.{IsLegal, Extends}
 use Rattle.tdb_base.specs.Lines.{picked}
 use Rattle.tdb_base.specs.declared.reply.Reply.{Reply}
+use Rattle.tdb_base.specs.declared.reply.Reply.TheVariants as r
 use Rattle.tdb_base.proofs.AgreesLemmas.{calls-some}
 use Rattle.tdb_base.proofs.ListLemmas.{at-contained}
 use Rattle.tdb_base.proofs.PickLemmas.{picked_length}
@@ -19,6 +20,7 @@ use Rattle.tdb_base.proofs.TallyLemmas.{contained-at}
 use Rattle.pair_rule.specs.declared.view.View.{View}
 use Rattle.pair_rule.specs.declared.sizes.About.{About}
 use Rattle.pair_rule.specs.declared.pass.PassOf.{PassOf}
+use Rattle.pair_rule.specs.Paths.{node_buckets, size, Listed}
 use Rattle.pair_rule.specs.View.{child_view}
 use Rattle.pair_rule.specs.Rest.{Whole, view, last_vector}
 use Rattle.pair_rule.proofs.Census.{child_same}
@@ -29,14 +31,17 @@ use Rattle.pair_rule.specs.Splits.{HasTaken}
 use Rattle.pair_nodes.specs.Roots.{Refusals}
 use Rattle.work_run.specs.declared.worker.Worker.{Worker}
 use Rattle.work_run.specs.Workers.{after_splits, after_joins, IsSplitWorker, AreSplitWorkers, AreJoined}
-use Rattle.work_run.specs.Full.{IsOfOne}
+use Rattle.work_run.specs.Full.{IsOfOne, is_full_inside, full_inside}
 use Rattle.work_run.specs.Giving.{Giving}
 use Rattle.work_run.specs.Inserted.{puts_of, Inserted}
 use Rattle.work_run.specs.Owned.{owned}
 use Rattle.work_run.specs.Telling.{Telling, told_entries, entries_at}
 use Rattle.work_run.specs.Work.{CanWork, HasTakenLines}
 use Rattle.work_run.specs.Ran.{HasRunOver, KeepsPass, OneHistoryOver, FullAreBarred, NewNodesAreOfLines, puts_of_worker, puts_of_all}
+use Rattle.work_run.specs.Enough.{IsOfNewStore, HasNodesFor, NeverAnswered}
 use Rattle.work_run.proofs.Answered.{barred_more, of_one_more}
+use Rattle.work_run.proofs.Few.{few_puts}
+use Rattle.work_run.proofs.Filled.{all_are_filled, has_all_below}
 use Rattle.work_run.proofs.Elements.{has_or_not, has_map, has_unmap, has_place, placed, numbered_at, at_numbered}
 use Rattle.work_run.proofs.SplitInTurn.{given, after_splits_stay, whole_again}
 use Rattle.work_run.proofs.Joins.{numbers_first, numbers_other}
@@ -88,6 +93,28 @@ module _ {T : Type 0} where
         let rest = probes_within v ws most (from + 1) (λ j d lt. let h = each (suc j) d (omega arith) in let e : from + suc j ≡ (from + 1) + j = omega arith in subst (λ (n : ℕ). (get_or ws j d).probes ≤ most n) e h) in
         let here = subst (λ (n : ℕ). w.probes ≤ most n) (let e : from + 0 ≡ from = omega arith in e) (each 0 w (omega arith)) in
         omega (arith, rest, here, sum_by-cons (λ (x : ℕ). x) (most from) (map most (range_with_len (from + 1) (length ws))))
+
+    -- views that put no more nodes than they began probes were joined into one, and one of them put fewer
+    made_within : (v : View T) (ws : List (View T)) → ((u : View T) → Has u ws → length u.made ≤ u.probes) → length (after_joins join v ws).made + v.probes ≤ length v.made + (after_joins join v ws).probes
+    made_within v [] each = omega arith
+    made_within v (w ∷ ws) each =
+        let long = length-append (after_joins join v ws).made w.made in
+        omega (arith, made_within v ws (λ u t. each u (inr t)), each w (inl refl), long)
+
+    made_fewer : (v : View T) (ws : List (View T)) → ((u : View T) → Has u ws → length u.made ≤ u.probes) → (one : View T) → Has one ws → length one.made < one.probes → length (after_joins join v ws).made + v.probes < length v.made + (after_joins join v ws).probes
+    made_fewer v [] each one there fewer = absurd there
+    made_fewer v (w ∷ ws) each one there fewer =
+        let long = length-append (after_joins join v ws).made w.made in
+        ⊎_elim
+        (λ (e : one ≡ w). let here = subst (λ (u : View T). length u.made < u.probes) e fewer in omega (arith, made_within v ws (λ u t. each u (inr t)), here, long))
+        (λ (t : Has one ws). let rest = made_fewer v ws (λ u t. each u (inr t)) one t fewer in omega (arith, rest, each w (inl refl), long))
+        there
+
+-- some reply says so
+full_counted : (replies : List Reply) (k : ℕ) → slice_get replies k ≡ Some r.FullNodes → 1 ≤ full_inside replies
+full_counted [] k at = cc at
+full_counted (reply ∷ replies) zero at = let e : reply ≡ r.FullNodes = cc at in rw e (omega (arith, sum_by-cons (λ (x : Reply). cond (is_full_inside x) 1 0) r.FullNodes replies))
+full_counted (reply ∷ replies) (suc k) at = omega (arith, full_counted replies k at, sum_by-cons (λ (x : Reply). cond (is_full_inside x) 1 0) reply replies)
 
 -- workers that were split can work
 pub can_work : {T S A : Type 0} (part : Part T) (store : Store) (giving : Giving S) (begins : ℕ → S → Type 0) (base now : PassOf T) (all_workers : List (Worker T S A)) (lines : ℕ)
@@ -366,6 +393,52 @@ module _ {T S A : Type 0} (part : Part T) (refusals : Refusals part) (store : St
       let total = ap (λ (n : ℕ). sum (map most (range_with_len 0 n))) long in
       omega (arith, few, same, total, (after_splits_stay workers v0).probes)
 
+  made_each : (u : View T) → Has u views → length u.made ≤ u.probes
+  made_each u h =
+      let m = mate_of u h in
+      let sound = (mate m.0 m.1).inserted.rest.seat.sound in
+      subst (λ (x : View T). length x.made ≤ x.probes) (sym m.2) (omega (arith, sound.probed))
+
+  -- where a line was full inside its tree, fewer nodes were put than probes were begun
+  made_run : (i : ℕ) → slice_get replies i ≡ Some r.FullNodes → length (view new).made + v0.probes < length v0.made + (view new).probes
+  made_run i at =
+      let lt : i < length trace = omega (arith, slice_get_within replies i r.FullNodes at, one_each) in
+      let v = placed trace i lt in
+      let t = turn i v.one r.FullNodes (slice_get-get_or trace i v.one lt ∙ ap Some (v.here v.one)) at in
+      let m = mate t.worker t.among in
+      let full = full_counted (picked replies (lines_of t.worker)) t.number t.answer in
+      let none : (view m.start).probes ≡ 0 = ap (λ (u : View T). u.probes) m.start_is in
+      let empty : length (view m.start).made ≡ 0 = ap (λ (u : View T). length u.made) m.start_is in
+      let fewer : length (view m.pass).made < (view m.pass).probes = omega (arith, m.inserted.few_made, full, none, empty) in
+      let less = made_fewer part.join (after_splits workers v0) views made_each (view m.pass) (has_view t.worker t.among) fewer in
+      let stay = after_splits_stay workers v0 in
+      omega (arith, less, ap (λ (u : View T). length u.made) joined_is, ap (λ (u : View T). u.probes) joined_is, ap (λ (l : List ℕ). length l) stay.made, stay.probes)
+
+  -- in a new store with a bucket for each node that the lines can have no line is full inside its tree
+  enough_run : IsOfNewStore v0 → HasNodesFor store.about (length trace) → NeverAnswered replies r.FullNodes
+  enough_run is_new room i at =
+      let lt : i < length trace = omega (arith, slice_get_within replies i r.FullNodes at, one_each) in
+      let v = placed trace i lt in
+      let blocked = (full_run i v.one r.FullNodes (slice_get-get_or trace i v.one lt ∙ ap Some (v.here v.one)) at).blocked in
+      let all = joint.rest.seat.sound.whole (whole_run is_new.whole) in
+      let b = node_buckets store.about in
+      let filled = has_all_below (size b) (view new).made (λ j below. (let here = all_are_filled b joint.rest.seat.is_about.range.least_nodes room.all_walked (Listed (view new).known) _ blocked j below in all.made j here.0 here.1)) in
+      let none : length v0.made ≡ 0 = ap (λ (l : List ℕ). length l) (nothing_made is_new.no_nodes) in
+      omega (arith, filled, none, made_run i at, probes_run, few_puts store.about trace replies owner workers owners, room.enough)
+    where
+      nothing_made : v0.known ≡ [] → v0.made ≡ []
+      nothing_made empty = by v0.made (λ j h. let k = made_then_known j h in subst (λ (l : List (ℕ × ℕ)). Has (j, k.0) l) empty k.1)
+        where
+          by : (l : List ℕ) → ((j : ℕ) → Has j l → ⊥) → l ≡ []
+          by [] without = refl
+          by (j ∷ l) without = absurd (without j (inl refl))
+
+          made_then_known : (j : ℕ) → Has j v0.made → (pair : ℕ) × Has (j, pair) v0.known
+          made_then_known j h =
+              let stay = after_splits_stay workers v0 in
+              let k = split.rest.seat.sound.made j (subst (λ (l : List ℕ). Has j l) (sym (ap (λ (u : View T). u.made) now_is ∙ stay.made)) h) in
+              (k.0, subst (λ (l : List (ℕ × ℕ)). Has (j, k.0) l) (ap (λ (u : View T). u.known) now_is ∙ stay.known) k.1)
+
   -- what the pass had
   kept_run : KeepsPass part base new
   kept_run =
@@ -381,4 +454,4 @@ module _ {T S A : Type 0} (part : Part T) (refusals : Refusals part) (store : St
 
   -- all of it
   pub runs : HasRunOver (owned (length trace) owner) (entries_at telling trace answers) part store.about trace (map telling.reply answers) workers base new
-  runs = record { one_history = history_run; kept = kept_run; whole = whole_run; nodes = nodes_run; full = full_run; probes = probes_run }
+  runs = record { one_history = history_run; kept = kept_run; whole = whole_run; nodes = nodes_run; full = full_run; enough_nodes = enough_run; probes = probes_run }

@@ -1,5 +1,5 @@
 -- Why lines are answered full, and where the nodes come from.
-use Rattle.std.specs.Prelude.{ℕ, List, ⊤}
+use Rattle.std.specs.Prelude.{ℕ, List, Bool, true, false, count_by, ⊤}
 use Rattle.tree_shape.specs.Tree.{Has}
 use Rattle.tdb_base.specs.History.{Vector}
 use Rattle.tdb_base.specs.declared.reply.Reply.{Reply}
@@ -14,6 +14,17 @@ Barred part about nodes roots v r.FullNodes = IsBlockedInside about nodes v
 Barred part about nodes roots v r.FullRoots = IsBlockedRoot about nodes (part.is_full about roots) v
 Barred part about nodes roots v (r.New id) = ⊤
 Barred part about nodes roots v (r.Seen id) = ⊤
+
+-- a pair inside the tree of the line's vector had no place
+abbrev pub is_full_inside : Reply → Bool
+is_full_inside r.FullNodes = true
+is_full_inside r.FullRoots = false
+is_full_inside (r.New id) = false
+is_full_inside (r.Seen id) = false
+
+-- how many lines were answered so
+abbrev pub full_inside : List Reply → ℕ
+full_inside replies = count_by is_full_inside replies
 
 -- the index is that of an inner node in the tree of one of the vectors
 abbrev pub IsOfOne : About → List (ℕ × ℕ) → List Vector → ℕ → Type 0

@@ -13,7 +13,7 @@ use Rattle.pair_rule.specs.Part.{Store, Part, root_pairs}
 use Rattle.pair_rule.specs.Rest.{AtRest, view, last_vector}
 use Rattle.tree_store.specs.Store.{NeverNamed}
 use Rattle.tree_store.specs.Vectors.{puts_after}
-use Rattle.work_run.specs.Full.{Barred, IsOfOne}
+use Rattle.work_run.specs.Full.{Barred, IsOfOne, full_inside}
 
 -- the vector of the last tree after a vector was answered
 abbrev pub last_after : Option Vector → Vector → Reply → Option Vector
@@ -53,3 +53,6 @@ pub record Inserted {T : Type 0} (part : Part T) (store : Store) (vectors : List
       → Has index (view old).made ⊎ IsOfOne store.about (view new).known vectors index
   pub last : last_vector new ≡ last_of (last_vector old) vectors replies
   pub probes : (view new).probes ≤ (view old).probes + puts_of store.about (last_vector old) vectors replies
+  -- each probe put one node at most, and one for each line that was full inside put none
+  pub few_made : length (view new).made + full_inside replies + (view old).probes
+      ≤ length (view old).made + (view new).probes

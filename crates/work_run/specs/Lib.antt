@@ -4,6 +4,7 @@ pub mod Giving
 pub mod ToCome
 pub mod Telling
 pub mod Full
+pub mod Enough
 pub mod Inserted
 pub mod Workers
 pub mod Work

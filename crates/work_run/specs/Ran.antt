@@ -8,11 +8,13 @@ use Rattle.tdb_base.specs.Agrees.{AgreesOverAmongOthers, AgreesOver, entries_of_
 use Rattle.tdb_base.specs.History.{Vector, History, calls}
 use Rattle.tdb_base.specs.Lines.{mine, picked}
 use Rattle.tdb_base.specs.declared.reply.Reply.{Reply}
+use Rattle.tdb_base.specs.declared.reply.Reply.TheVariants as r
 use Rattle.pair_rule.specs.declared.view.View.{View}
 use Rattle.pair_rule.specs.declared.sizes.About.{About}
 use Rattle.pair_rule.specs.declared.pass.PassOf.{PassOf}
 use Rattle.pair_rule.specs.Rest.{Whole, view}
 use Rattle.pair_rule.specs.Part.{Part, root_pairs}
+use Rattle.work_run.specs.Enough.{IsOfNewStore, HasNodesFor, NeverAnswered}
 use Rattle.work_run.specs.Full.{Barred, IsOfOne}
 use Rattle.work_run.specs.Inserted.{puts_of}
 use Rattle.work_run.specs.Owned.{owned}
@@ -78,6 +80,8 @@ pub record HasRunOver {T : Type 0} (lines_of : ℕ → List ℕ) (line_entries :
   pub whole : Whole (view old) → Whole (view new)
   pub nodes : NewNodesAreOfLines about trace (view old) (view new)
   pub full : FullAreBarred part about trace replies (view new)
+  pub enough_nodes : IsOfNewStore (view old) → HasNodesFor about (length trace)
+      → NeverAnswered replies r.FullNodes
   pub probes : (view new).probes ≤ (view old).probes + puts_of_all about trace replies lines_of workers
 
 -- the same, where the lines are dealt out in blocks of `block` lines, and inserted

@@ -8,6 +8,7 @@ mod dealt;
 mod drawn;
 mod drawn_run;
 mod drew;
+mod enough;
 mod lines;
 mod place;
 mod room;
@@ -20,6 +21,7 @@ mod worker;
 mod workers;
 
 pub use drawn_run::{run_drawn, run_drawn_waiting};
+pub use enough::{compact_roots_suffice, plain_roots_suffice};
 pub use lines::{line_of, lines_are_dealt_out};
 pub use run::{puts_are_few, run_lines, run_lines_waiting};
 pub use worker::Worker;
