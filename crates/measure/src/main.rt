@@ -7,12 +7,14 @@ ghost use Rattle.measure.specs.Asked.{IsAsked};
 mod callers;
 mod calls;
 mod clock;
+mod locks;
 mod nodes;
 mod read_trace;
 mod region;
 mod roots;
 mod words;
 
+use pair_rule::Sizes;
 use std::process::ExitCode;
 use std::sync::Wait;
 use std::thread::Threads;
@@ -47,6 +49,7 @@ fn time<H: Threads + Wait + Sync>(
         "nodes" => time_nodes(rt, handle, words),
         "region" => time_region(rt, words),
         "roots" => time_roots(rt, handle, words),
+        "locks" => count_locks(rt, handle, words),
         _ => Ok(None),
     }
 }
@@ -129,4 +132,30 @@ fn roots_asked(words: &[String]) -> Option<roots::Asked>
         looks,
         threads,
     })
+}
+
+fn count_locks<H: Threads + Wait + Sync>(
+    rt: &HostRuntime,
+    handle: &H,
+    words: &[String],
+) -> io::Result<Option<ExitCode>> {
+    let Some(workers) = number(words, 2, 1, 64, 4) else {
+        return Ok(None);
+    };
+    let Some(roots) = number(words, 3, 6, 24, 20) else {
+        return Ok(None);
+    };
+    let Some(region) = number(words, 4, 6, 12, 8) else {
+        return Ok(None);
+    };
+    if words.len() > 5 {
+        return Ok(None);
+    }
+    let sizes = Sizes {
+        nodes: 24,
+        roots: roots as u32,
+        region: region as u32,
+        probe: 4_194_304,
+    };
+    Ok(Some(locks::count(rt, handle, &sizes, workers)?))
 }

@@ -5,7 +5,8 @@ ghost use Rattle.std.specs.Prelude.{◌≤◌, IfSome};
 /// What the words may be.
 pub const USAGE: &str = "usage: measure read-trace [TRIES] | nodes [D [THREADS]] | \
     region [S [FILL [ROUNDS]]] | \
-    roots [TABLES [S [FILL [PUTS [LOOKS [THREADS [R]]]]]]]";
+    roots [TABLES [S [FILL [PUTS [LOOKS [THREADS [R]]]]]]] | \
+    locks [WORKERS [R [S]]]";
 
 /// The number that the word at this place writes, from `low` to `high`; `otherwise`, where no word stands
 /// there.

@@ -12,6 +12,7 @@ mod put;
 mod root;
 mod steps;
 mod table;
+mod taken;
 mod words;
 
 pub use find::{find_id, root_pair};
@@ -20,6 +21,7 @@ pub use peek::{Peek, peek_root};
 pub use put::put_root;
 pub use root::{CompactRoot, Holding, Reading, Regions};
 pub use table::CompactTable;
+pub use taken::locks_taken;
 
 #[cfg(test)]
 mod tests;

@@ -6,7 +6,7 @@ ghost use Rattle.region_root.specs.Compact.{compact};
 
 use super::{Store, StorePass, peek, put, put_some, read, store, turn};
 use crate::words::lock_word;
-use crate::{Peek, find_id, root_pair};
+use crate::{Peek, find_id, locks_taken, root_pair};
 use std::process::Abort;
 use std::sync::Wait;
 use std::test::Fail;
@@ -91,5 +91,6 @@ fn takes_a_lock_once(rt: HostRuntime) -> Result<(), Fail> {
     assert!(rt; rise(&store, &mut lock) == 128);
     let full = put(&rt, &store, &mut pass, 64, &mut steps);
     assert!(rt; full.is_none() && rise(&store, &mut lock) == 2);
+    assert_eq!(rt; locks_taken(&store), 74);
     Ok(())
 }
