@@ -4,7 +4,7 @@ use Rattle.std.proofs.Math.Nat.{mul-le-mul_right}
 use Rattle.std.proofs.lemmas.Bool.{cases_lt}
 use Rattle.cleary_core.specs.declared.cells.Cell.{Cell}
 use Rattle.cleary_core.specs.declared.cells.Sizes.{Sizes}
-use Rattle.cleary_core.specs.Access.{HasReached, HasCells, Reaches}
+use Rattle.cleary_core.specs.Access.{HasReached, HasBits, HasCells, Reaches}
 use Rattle.cleary_core.specs.Cells.{width}
 use Rattle.cleary_core.specs.Map.{Key, Keeps}
 use Rattle.cleary_core.specs.Search.{ReachesRun}
@@ -49,6 +49,21 @@ second_word z i at p e f h = let g : suc i * width z ≡ i * width z + width z =
 -- what one word added
 pub at_word : (before after : ℕ → ℕ → Type 0) (z : Sizes) (low high p : ℕ) → ((i m : ℕ) → after i m → before i m ⊎ (i ≡ p)) → HasCells z low high p → Reaches before after z low high
 at_word before after z low high p only has = λ i m found. ⊎_elim (λ (old : before i m). inl old) (λ (there : i ≡ p). inr (subst (λ (q : ℕ). HasCells z low high q) (sym there) has)) (only i m found)
+
+-- what one word added that has some of these bits, and one reading of them after another
+pub bits_at : (before after : ℕ → ℕ → Type 0) (at bits p : ℕ) → ((i m : ℕ) → after i m → before i m ⊎ (i ≡ p)) → HasBits at bits p → (i m : ℕ) → after i m → before i m ⊎ HasBits at bits i
+bits_at before after at bits p only has = λ i m found. ⊎_elim (λ (old : before i m). inl old) (λ (there : i ≡ p). inr (subst (λ (q : ℕ). HasBits at bits q) (sym there) has)) (only i m found)
+
+pub bits_then : (first second third : ℕ → ℕ → Type 0) (at bits : ℕ) → ((i m : ℕ) → second i m → first i m ⊎ HasBits at bits i) → ((i m : ℕ) → third i m → second i m ⊎ HasBits at bits i)
+    → (i m : ℕ) → third i m → first i m ⊎ HasBits at bits i
+bits_then first second third at bits a b = λ i m found. ⊎_elim (λ (old : second i m). a i m old) (λ (there : HasBits at bits i). inr there) (b i m found)
+
+-- bits of one cell
+pub bits_within : (before after : ℕ → ℕ → Type 0) (z : Sizes) (i start at bits : ℕ) → start ≡ i * width z → start ≤ at → at + bits ≤ start + width z
+    → ((p m : ℕ) → after p m → before p m ⊎ HasBits at bits p) → Reaches before after z i (suc i)
+bits_within before after z i start at bits e low high reach = λ p m found. ⊎_elim (λ (old : before p m). inl old)
+    (λ (there : HasBits at bits p). let g : suc i * width z ≡ i * width z + width z = omega arith in let a = there.0 in let b = there.1 in inr (omega (arith, a, b, e, low), omega (arith, b, e, high, g)))
+    (reach p m found)
 
 -- the cell of a key stands in its home's run, so that a further step there stays in the run
 pub along_run : (first second third : ℕ → ℕ → Type 0) (z : Sizes) (cells : ℕ → Cell) (keys : List Key) (k : Keeps z.cells cells keys) (home at : ℕ) (key : Key) → k.slots at ≡ Some key → key.home ≡ home

@@ -1,5 +1,5 @@
 -- Words that are reached one at a time.
-use Rattle.std.specs.Prelude.{◌≡◌, ◌⊎◌, ℕ, suc, ◌*◌, ◌<◌, List, length, slice_index}
+use Rattle.std.specs.Prelude.{◌≡◌, ◌⊎◌, ℕ, suc, ◌+◌, ◌*◌, ◌<◌, List, length, slice_index}
 use Rattle.cleary_core.specs.declared.cells.Sizes.{Sizes}
 use Rattle.cleary_core.specs.Cells.{width}
 
@@ -19,6 +19,10 @@ AreReached reached words count = (length words ≡ count) × HasReached reached 
 -- word i has a bit of a cell from `low` up to `high`
 abbrev pub HasCells : Sizes → ℕ → ℕ → ℕ → Type 0
 HasCells z low high i = (low * width z < 64 * suc i) × (64 * i < high * width z)
+
+-- word i has one of so many bits from bit `at` on
+abbrev pub HasBits : ℕ → ℕ → ℕ → Type 0
+HasBits at bits i = (at < 64 * suc i) × (64 * i < at + bits)
 
 -- what was found between two moments was found in words of the cells from `low` up to `high`
 abbrev pub Reaches : (ℕ → ℕ → Type 0) → (ℕ → ℕ → Type 0) → Sizes → ℕ → ℕ → Type 0

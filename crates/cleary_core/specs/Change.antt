@@ -1,10 +1,17 @@
 -- What an insertion does to the cells.
-use Rattle.std.specs.Prelude.{◌≡◌, ◌≢◌, ◌⊎◌, ℕ, suc, ◌-◌, ◌<◌, ◌≤◌, Bool, true, not, List}
+use Rattle.std.specs.Prelude.{◌≡◌, ◌≢◌, ◌⊎◌, ℕ, suc, ◌+◌, ◌-◌, ◌<◌, ◌≤◌, Bool, true, not, List}
+use Rattle.packed_word.specs.Slice.{bit, field}
 use Rattle.cleary_core.specs.declared.cells.Cell.{Cell}
 use Rattle.cleary_core.specs.Answers.{Present}
 use Rattle.cleary_core.specs.Cells.{carried}
 use Rattle.cleary_core.specs.Map.{Key, Slots}
 use Rattle.cleary_core.specs.Search.{InRun, Placed, Row}
+
+-- the field of so many bits from bit `at` on was set to the number, and all other bits are as they were
+pub record BitsPut (old new : List ℕ) (at bits number : ℕ) : Type 0 where
+  pub value : field new at bits ≡ number
+  pub before : (t : ℕ) → t < at → bit new t ≡ bit old t
+  pub after : (t : ℕ) → at + bits ≤ t → bit new t ≡ bit old t
 
 -- one key put into a cell whose virgin bit stays, and its home marked
 pub record Put (old new : ℕ → Cell) (place home quotient : ℕ) (fresh : Bool) : Type 0 where

@@ -2,13 +2,13 @@
 
 ghost use Rattle.std.specs.Prelude.{◌≡◌, ◌≢◌, ◌⊎◌, ℕ, suc, true, ◌+◌, ◌-◌, ◌*◌, ◌^◌, ◌<◌, ◌≤◌, length};
 ghost use Rattle.std.specs.Prelude.{slice_index, slice_set};
-ghost use Rattle.cleary_core.specs.Access.{Reaches};
-ghost use Rattle.cleary_core.specs.Cells.{width, IsRegion, Small, cell_at, word_count, carried};
-ghost use Rattle.cleary_core.specs.Change.{Put, ShiftedUp, ShiftedDown};
+ghost use Rattle.cleary_core.specs.Access.{HasBits, Reaches};
+ghost use Rattle.cleary_core.specs.Cells.{width, IsRegion, Small, cell_at, word_count, carried, cell_marks};
+ghost use Rattle.cleary_core.specs.Change.{BitsPut, Put, ShiftedUp, ShiftedDown};
 
 use crate::access::WriteWords;
-use crate::cells::{Cell, Sizes, pack, start_of};
-use crate::reading::read_cell;
+use crate::cells::{Cell, CellMarks, Sizes, pack, start_of};
+use crate::reading::{read_cell, read_marks};
 use packed_word::Bits;
 
 // The word at a place.
@@ -57,6 +57,49 @@ pub(crate) fn own_cell<A: WriteWords>(sizes: &Sizes, access: &mut A, i: u64) -> 
     read_cell(sizes, access, i)
 }
 
+// The marks of a cell, as the words are.
+#[inline]
+fn own_marks<A: WriteWords>(sizes: &Sizes, access: &mut A, i: u64) -> CellMarks
+    requires region { IsRegion sizes.now }
+    requires words { A.spans access.old (word_count sizes.now) }
+    requires inside { i < sizes.now.cells }
+    ensures value { result ≡ cell_marks (cell_at sizes.now (A.words access.old) i) }
+    ensures same { A.words access.new ≡ A.words access.old }
+    ensures words { A.spans access.new (word_count sizes.now) }
+    ensures near { Reaches (A.reached access.old) (A.reached access.new) sizes.now i (suc i) }
+    ensures writes { A.writes access.old access.new }
+{
+    read_marks(sizes, access, i)
+}
+
+// Writes a number of so many bits from bit `at` on: of the one or two words that have them, those that change.
+#[inline]
+fn write_bits<A: WriteWords>(sizes: &Sizes, access: &mut A, at: u64, bits: u32, number: u64)
+    requires words { A.spans access.old (word_count sizes.now) }
+    requires bits { (1 ≤ bits) × (bits ≤ 64) }
+    requires inside { at + bits ≤ 64 * word_count sizes.now }
+    requires small { number < 2 ^ bits }
+    ensures words { A.spans access.new (word_count sizes.now) }
+    ensures put { BitsPut (A.words access.old) (A.words access.new) at bits number }
+    ensures near { (i m : ℕ) → A.reached access.new i m → A.reached access.old i m ⊎ HasBits at bits i }
+    ensures writes { A.writes access.old access.new }
+{
+    let place = (at / 64) as usize;
+    let offset = (at % 64) as u32;
+    let low = word_at(sizes, access, place);
+    if offset + bits <= 64 {
+        let mut part = [low];
+        Bits::put(&mut part, offset as u64, bits, number);
+        set_word(sizes, access, place, low, part[0]);
+        return;
+    }
+    let high = word_at(sizes, access, place + 1);
+    let mut part = [low, high];
+    Bits::put(&mut part, offset as u64, bits, number);
+    set_word(sizes, access, place, low, part[0]);
+    set_word(sizes, access, place + 1, high, part[1]);
+}
+
 // Writes a cell: of the one or two words that have it, those that change.
 #[inline]
 pub(crate) fn write_cell<A: WriteWords>(sizes: &Sizes, access: &mut A, i: u64, cell: Cell)
@@ -72,22 +115,26 @@ pub(crate) fn write_cell<A: WriteWords>(sizes: &Sizes, access: &mut A, i: u64, c
     ensures writes { A.writes access.old access.new }
 {
     let at = start_of(sizes, i);
-    let bits = 3 + sizes.flags + sizes.quotient;
-    let place = (at / 64) as usize;
-    let offset = (at % 64) as u32;
     let number = pack(sizes, &cell);
-    let low = word_at(sizes, access, place);
-    if offset + bits <= 64 {
-        let mut part = [low];
-        Bits::put(&mut part, offset as u64, bits, number);
-        set_word(sizes, access, place, low, part[0]);
-        return;
-    }
-    let high = word_at(sizes, access, place + 1);
-    let mut part = [low, high];
-    Bits::put(&mut part, offset as u64, bits, number);
-    set_word(sizes, access, place, low, part[0]);
-    set_word(sizes, access, place + 1, high, part[1]);
+    write_bits(sizes, access, at, 3 + sizes.flags + sizes.quotient, number);
+}
+
+// Marks a cell as the home of a key: one bit, and of the words only the one that has it.
+#[inline]
+fn mark_home<A: WriteWords>(sizes: &Sizes, access: &mut A, home: u64)
+    requires region { IsRegion sizes.now }
+    requires words { A.spans access.old (word_count sizes.now) }
+    requires inside { home < sizes.now.cells }
+    ensures words { A.spans access.new (word_count sizes.now) }
+    ensures here { cell_at sizes.now (A.words access.new) home
+        ≡ carried true (cell_at sizes.now (A.words access.old) home) }
+    ensures others { (j : ℕ) → j ≢ home
+        → cell_at sizes.now (A.words access.new) j ≡ cell_at sizes.now (A.words access.old) j }
+    ensures near { Reaches (A.reached access.old) (A.reached access.new) sizes.now home (suc home) }
+    ensures writes { A.writes access.old access.new }
+{
+    let at = start_of(sizes, home) + 1;
+    write_bits(sizes, access, at, 1, 1);
 }
 
 // Writes a key into its home, which is empty and then its group's only cell.
@@ -134,25 +181,16 @@ pub(crate) fn put_key<A: WriteWords>(
         → Reaches (A.reached access.old) (A.reached access.new) sizes.now low high }
     ensures writes { A.writes access.old access.new }
 {
-    let before = own_cell(sizes, access, place);
+    let before = own_marks(sizes, access, place);
     let key = Cell {
         occupied: true,
+        virgin: before.virgin,
         change: fresh,
         flags: 0,
         quotient,
-        ..before
     };
     write_cell(sizes, access, place, key);
-    let there = own_cell(sizes, access, home);
-    write_cell(
-        sizes,
-        access,
-        home,
-        Cell {
-            virgin: true,
-            ..there
-        },
-    );
+    mark_home(sizes, access, home);
 }
 
 // Moves the keys from `place` up to `free` by one cell. The virgin marks stay.
@@ -167,20 +205,12 @@ pub(crate) fn shift_up<A: WriteWords>(sizes: &Sizes, access: &mut A, place: u64,
     ensures near { Reaches (A.reached access.old) (A.reached access.new) sizes.now place (suc free) }
     ensures writes { A.writes access.old access.new }
 {
-    let mut here = own_cell(sizes, access, free);
+    let mut virgin = own_marks(sizes, access, free).virgin;
     let mut at = free;
     while at > place {
         let left = own_cell(sizes, access, at - 1);
-        write_cell(
-            sizes,
-            access,
-            at,
-            Cell {
-                virgin: here.virgin,
-                ..left
-            },
-        );
-        here = left;
+        write_cell(sizes, access, at, Cell { virgin, ..left });
+        virgin = left.virgin;
         at -= 1;
     }
 }
@@ -196,20 +226,12 @@ pub(crate) fn shift_down<A: WriteWords>(sizes: &Sizes, access: &mut A, free: u64
     ensures near { Reaches (A.reached access.old) (A.reached access.new) sizes.now free (suc place) }
     ensures writes { A.writes access.old access.new }
 {
-    let mut there = own_cell(sizes, access, free);
+    let mut virgin = own_marks(sizes, access, free).virgin;
     let mut at = free;
     while at < place {
         let right = own_cell(sizes, access, at + 1);
-        write_cell(
-            sizes,
-            access,
-            at,
-            Cell {
-                virgin: there.virgin,
-                ..right
-            },
-        );
-        there = right;
+        write_cell(sizes, access, at, Cell { virgin, ..right });
+        virgin = right.virgin;
         at += 1;
     }
 }

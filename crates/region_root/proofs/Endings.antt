@@ -12,10 +12,11 @@ use Rattle.pair_rule.specs.Rule.{Named}
 use Rattle.pair_rule.proofs.Lists.{has_front, has_back}
 use Rattle.pair_rule.proofs.Names.{root_more}
 use Rattle.pair_rule.proofs.Steps.{named_more}
+use Rattle.pair_nodes.specs.Roots.{deed}
 use Rattle.region_root.specs.Layout.{region_of, IsPacked}
 use Rattle.region_root.specs.Maps.{roots_of, IsMapOf, with_flag_set}
 use Rattle.region_root.specs.Names.{are_names}
-use Rattle.region_root.specs.Plays.{Ending, deed, Ends, MayEnd}
+use Rattle.region_root.specs.Plays.{Ending, Ends, MayEnd}
 use Rattle.region_root.proofs.Maps.{map_other, map_fresh, map_flagged, map_quiet}
 
 -- a name's identifier is a root that stands for its vector

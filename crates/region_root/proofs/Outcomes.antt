@@ -13,7 +13,7 @@ use Rattle.pair_rule.specs.Part.{Store, IsTable}
 use Rattle.pair_rule.specs.Calls.{call, Called, IsNoName, KeepsBuffers}
 use Rattle.pair_rule.proofs.Catches.{names_by_seen, names_caught}
 use Rattle.pair_rule.proofs.Calling.{called_entry}
-use Rattle.pair_nodes.specs.Roots.{RootPut, RootRefused}
+use Rattle.pair_nodes.specs.Roots.{RootPut, RootRefused, RootActed, deed}
 use Rattle.pair_rule.specs.Plays.{Caught}
 use Rattle.pair_rule.specs.Rest.{AtRest, names_of_callers, view}
 use Rattle.region_root.specs.declared.root.Regions.{Regions}
@@ -22,8 +22,10 @@ use Rattle.region_root.specs.Layout.{region_of, IsPacked, KeepsRoots}
 use Rattle.region_root.specs.Maps.{roots_of, IsMapOf, IsFull}
 use Rattle.region_root.specs.Compact.{LockedOnce, compact}
 use Rattle.region_root.specs.Names.{are_names}
-use Rattle.region_root.specs.Plays.{part_of, Ending, deed, Told}
-use Rattle.region_root.specs.Told.{HasNoPlace, Acted, flag_act}
+use Rattle.region_root.specs.Plays.{part_of, Ending, Told}
+use Rattle.region_root.specs.Told.{HasNoPlace, act_on}
+use Rattle.region_root.specs.declared.flag.Doing.{Doing}
+use Rattle.region_root.specs.declared.flag.Doing.TheVariants as d
 use Rattle.region_root.specs.Work.{Locked}
 use Rattle.region_root.proofs.Keys.{different, root_in}
 use Rattle.region_root.proofs.Resting.{mark, one_name, caught_for, caught_as}
@@ -165,19 +167,20 @@ module _ (width flags : ℕ) (store : Store) (is : IsTable width flags (compact 
       let mine = allowed-other count c.log its x act (legal.each c.log (deed (view p).number act its x) [] c.seen) old_one in
       names-differ count c.log before its vector x mine (keeps-names count (view p).seen c.log before c.begins vector x n)
 
-  pub acted : Acted width flags store act x p q
+  pub acted : RootActed (compact width flags) store act x p q
   acted = record {
     rest = rests;
     entry = λ vector n. subst (λ (y : Vector). Caught (compact width flags) (deed (view p).number act y x ∷ []) (view p) (view q)) (its_name vector n) caught_its;
-    locked = locked_once width flags store is p u q g lock rest l rests buffers root;
+    call = locked_once width flags store is p u q g lock rest l rests buffers root;
     buffers = quiet_others width flags store p q _ rest rests (all_buffers width flags store is p u q g lock rest l rests buffers) caught_its
         (one_name (view p).numbers (deed (view p).number act its x) rest.seat.sound.mine ∙ ap mark old_one);
   }
 
--- a change of a flag gives no name
-pub flag_old : (set : Bool) (b : ℕ) (first : Bool) → is_fresh (flag_act set b first) ≡ false
-flag_old true b first = refl
-flag_old false b first = refl
+-- a call on flags gives no name
+pub flag_old : (doing : Doing) (flags : ℕ) → is_fresh (act_on doing flags) ≡ false
+flag_old (d.Set b) flags = refl
+flag_old (d.Clear b) flags = refl
+flag_old d.Look flags = refl
 
 pub id_packed : (width flags : ℕ) (store : Store) (p : PassOf Regions) → AtRest (compact width flags) store p → (vector : Vector) (id : ℕ) → name_of (view p).seen vector ≡ Some id → IsPacked store.about id
 id_packed width flags store p r vector id n =

@@ -14,13 +14,14 @@ use Rattle.pair_rule.specs.Rest.{SeatRests, AtRest, names_of_callers, view}
 use Rattle.pair_rule.specs.Rule.{StoreRule}
 use Rattle.pair_rule.proofs.Catches.{names_by_fresh, rests_caught}
 use Rattle.pair_rule.proofs.Rests.{few_names_given}
+use Rattle.pair_nodes.specs.Roots.{deed}
 use Rattle.region_root.specs.declared.root.Regions.{Regions}
 use Rattle.region_root.specs.declared.root.Holding.{Holding}
 use Rattle.region_root.specs.declared.root.Reading.{Reading}
 use Rattle.region_root.specs.Layout.{regions, words_each, start, KeepsRoots}
 use Rattle.region_root.specs.Compact.{compact, Compact, Unchanged}
 use Rattle.region_root.specs.Laws.{compact_ids_below}
-use Rattle.region_root.specs.Plays.{part_of, Ending, deed, Ends, MayEnd, Told, seconded, place_in, IsNextLock, Frees, frees_tells, Believes, Closed, peeks_tells, reads_tells, closes_tells}
+use Rattle.region_root.specs.Plays.{part_of, Ending, Ends, MayEnd, Told, seconded, place_in, IsNextLock, Frees, frees_tells, Believes, Closed, peeks_tells, reads_tells, closes_tells}
 use Rattle.region_root.specs.Work.{released, gives_name, AtWork}
 use Rattle.region_root.proofs.Holders.{frees}
 use Rattle.region_root.proofs.Readers.{peeks, reads, closes, to_believe}

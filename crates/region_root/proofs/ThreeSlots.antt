@@ -13,10 +13,8 @@ use Rattle.pair_rule.specs.Part.{Store}
 use Rattle.pair_rule.specs.Rest.{view}
 use Rattle.pair_rule.proofs.Histories.{extends_trans}
 use Rattle.region_root.specs.declared.root.Regions.{Regions}
-use Rattle.pair_nodes.specs.Roots.{RootPut}
+use Rattle.pair_nodes.specs.Roots.{RootPut, RootActed, deed}
 use Rattle.region_root.specs.Compact.{compact}
-use Rattle.region_root.specs.Plays.{deed}
-use Rattle.region_root.specs.Told.{Acted}
 
 zero_parts : (width : ℕ) → (left_part width 0 ≡ 0) × (right_part width 0 ≡ 0)
 zero_parts width =
@@ -45,7 +43,7 @@ put_named store pair id fresh p q put some =
     (some.0, entry-named (view q).about.flags (view q).seen k.log [] (call (view p).number fresh some.0 id) k.sound.legal k.seen)
 
 -- a call on flags leaves its vector's name
-pub still_named : (store : Store) (act : Act) (id : ℕ) (p q : PassOf Regions) → Acted 16 8 store act id p q → (vector : Vector) × (name_of (view p).seen vector ≡ Some id) → (vector : Vector) × (name_of (view q).seen vector ≡ Some id)
+pub still_named : (store : Store) (act : Act) (id : ℕ) (p q : PassOf Regions) → RootActed (compact 16 8) store act id p q → (vector : Vector) × (name_of (view p).seen vector ≡ Some id) → (vector : Vector) × (name_of (view q).seen vector ≡ Some id)
 still_named store act id p q a n =
     let c = a.entry n.0 n.1 in
     let whole : Extends c.log (view q).seen = record { more = deed (view p).number act n.0 id ∷ []; whole = c.seen } in

@@ -4,12 +4,13 @@ use Rattle.std.specs.Prelude.{Option}
 use Rattle.std.specs.Prelude.{Some, None, slice_index, slice_set}
 use Rattle.atomic_table.specs.Table.{Me, Step}
 use Rattle.tree_shape.specs.Tree.{Has, RootStands}
-use Rattle.tdb_base.specs.History.{Vector, Act, Put, Entry, History, is_fresh, name_of}
+use Rattle.tdb_base.specs.History.{Vector, Act, Put, History, is_fresh, name_of}
 use Rattle.pair_rule.specs.declared.view.View.{View}
 use Rattle.pair_rule.specs.declared.sizes.About.{About}
 use Rattle.pair_rule.specs.Part.{Part}
 use Rattle.pair_rule.specs.Plays.{Caught, first_root}
 use Rattle.pair_rule.specs.Calls.{IsSomeRoot}
+use Rattle.pair_nodes.specs.Roots.{deed}
 use Rattle.region_root.specs.declared.root.Regions.{Regions}
 use Rattle.region_root.specs.declared.root.Holding.{Holding}
 use Rattle.region_root.specs.declared.root.Reading.{Reading}
@@ -24,10 +25,6 @@ part_of about = compact about.width about.flags
 -- how a call on a region ends: with none of the history's calls, or with one that did this with this root
 abbrev pub Ending : Type 0
 Ending = Option (ℕ × Act)
-
--- the call of the history that did so with a vector
-abbrev pub deed : ℕ → Act → Vector → ℕ → Entry
-deed caller act vector id = record { caller = caller; act = act; vector = vector; id = id }
 
 -- these are the calls of an ending
 abbrev pub Ends : ℕ → About → List (ℕ × ℕ) → Ending → History → Type 0

@@ -1,9 +1,9 @@
 -- What the calls on a compact store's roots leave of a pass, beside what they leave in every store.
-use Rattle.std.specs.Prelude.{◌≡◌, ℕ, List, [], ◌∷◌, length, Bool, true, false, Some, None}
-use Rattle.std.specs.Prelude.{Result, MatchResult, MatchBool, Option, option_map}
+use Rattle.std.specs.Prelude.{◌≡◌, ℕ, ◌<◌, List, [], ◌∷◌, length, Bool, true, false, not, Some, None}
+use Rattle.std.specs.Prelude.{Result, MatchResult, MatchBool, Option, option_map, ⊤}
 use Rattle.tree_shape.specs.Tree.{Has, RootStands}
 use Rattle.tdb_base.specs.Fakes.{counted}
-use Rattle.tdb_base.specs.History.{Vector, Act, Put, Set, Clear, name_of}
+use Rattle.tdb_base.specs.History.{Vector, Act, Put, Set, Clear, Look, name_of, has_bit}
 use Rattle.cleary_core.specs.Access.{HasReached}
 use Rattle.pair_nodes.specs.Roots.{RootPut}
 use Rattle.pair_rule.specs.declared.pass.PassOf.{PassOf}
@@ -11,6 +11,8 @@ use Rattle.pair_rule.specs.Calls.{IsNoName}
 use Rattle.pair_rule.specs.Part.{Store}
 use Rattle.pair_rule.specs.Plays.{Caught}
 use Rattle.pair_rule.specs.Rest.{AtRest, view}
+use Rattle.region_root.specs.declared.flag.Doing.{Doing}
+use Rattle.region_root.specs.declared.flag.Doing.TheVariants as d
 use Rattle.region_root.specs.declared.peek.Peek.{Peek}
 use Rattle.region_root.specs.declared.peek.Peek.TheVariants.{Seen, Absent, Changed}
 use Rattle.pair_rule.specs.declared.full.RootsFull.{RootsFull}
@@ -20,9 +22,9 @@ use Rattle.region_root.specs.declared.root.Regions.{Regions}
 use Rattle.region_root.specs.declared.root.Holding.{Holding}
 use Rattle.region_root.specs.declared.root.Reading.{Reading}
 use Rattle.region_root.specs.Layout.{words_each, most, region_of, KeepsRoots}
-use Rattle.region_root.specs.Maps.{InRegion}
-use Rattle.region_root.specs.Compact.{Unchanged, LockChanged, LockedOnce, compact}
-use Rattle.region_root.specs.Plays.{Told, deed}
+use Rattle.region_root.specs.Maps.{InRegion, with_flag_set}
+use Rattle.region_root.specs.Compact.{Unchanged, LockChanged, compact}
+use Rattle.region_root.specs.Plays.{Told}
 use Rattle.region_root.specs.Work.{HasLoaded}
 
 -- every cell of the region g has another root than x: the call ended with no call of the history
@@ -91,16 +93,19 @@ abbrev pub FindTold : ℕ → Bool → Holding → View Regions → View Regions
 FindTold x answer h v w = MatchBool answer (Told h.region h.base (Some (x, Put false)) v w)
     (((flags : ℕ) → Has (x, flags) h.base → ⊥) × Told h.region h.base None v w)
 
--- one call of the history did so with the vector that has this identifier, under one lock
-pub record Acted (width flags : ℕ) (store : Store) (act : Act) (id : ℕ) (old new : PassOf Regions) : Type 0
-  where
-    pub rest : AtRest (compact width flags) store new
-    pub entry : (vector : Vector) → name_of (view old).seen vector ≡ Some id
-        → Caught (compact width flags) (deed (view old).number act vector id ∷ []) (view old) (view new)
-    pub locked : LockedOnce (view old).root (view new).root
-    pub buffers : new ≡ record old { seat = new.seat }
+-- what a call does with flags that are these
+abbrev pub act_on : Doing → ℕ → Act
+act_on (d.Set bit) flags = Set bit (not (has_bit flags bit))
+act_on (d.Clear bit) flags = Clear bit (has_bit flags bit)
+act_on d.Look flags = Look flags
 
--- a flag is set, or cleared, and this says whether it changed
-abbrev pub flag_act : Bool → ℕ → Bool → Act
-flag_act true b first = Set b first
-flag_act false b first = Clear b first
+-- the flag of which a call speaks, if it speaks of one, is one of so many
+abbrev pub HasFlag : ℕ → Doing → Type 0
+HasFlag count (d.Set bit) = bit < count
+HasFlag count (d.Clear bit) = bit < count
+HasFlag count d.Look = ⊤
+
+-- the map after a call on the root x: its flags were set to these, or all stayed
+abbrev pub map_after : ℕ → Option ℕ → List (ℕ × ℕ) → List (ℕ × ℕ)
+map_after x None base = base
+map_after x (Some flags) base = with_flag_set x flags base

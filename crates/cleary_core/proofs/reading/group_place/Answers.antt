@@ -1,4 +1,4 @@
-use Rattle.std.proofs.Common.{◌≡◌, ◌-◌, ◌+◌, ℕ, suc, subst, sym, arith}
+use Rattle.std.proofs.Common.{◌≡◌, ◌-◌, ◌+◌, ℕ, suc, subst, arith}
 use Rattle.cleary_core.specs.Cells.{cell_at}
 use Rattle.cleary_core.specs.Search.{OnTheWay}
 use Rattle.cleary_core.proofs.Fronting.{passed_more, passed_all}

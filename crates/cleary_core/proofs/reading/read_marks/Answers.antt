@@ -1,6 +1,6 @@
 use Rattle.cleary_core.proofs.Reaching.{first_word, second_word}
-use Rattle.std.proofs.Common.{inl, inr, ⊎_elim, ◌<◌, ◌/◌, ◌%◌, ◌+◌, ◌∙◌, ℕ, sym, ap, arith, ◌≡◌}
-use Rattle.cleary_core.specs.Cells.{word_count, marks_in}
+use Rattle.std.proofs.Common.{inl, inr, ⊎_elim, ◌/◌, ◌+◌, ◌∙◌, sym, arith, ◌≡◌}
+use Rattle.cleary_core.specs.Cells.{word_count}
 use Rattle.cleary_core.proofs.Packing.{cell_inside, field_in_one, field_in_two, marks_as}
 use Rattle.cleary_core.proofs.reading.read_marks.Goals as goal
 

@@ -1,6 +1,6 @@
-use Rattle.std.proofs.Common.{◌≡◌, ◌<◌, ◌≤◌, ◌+◌, ◌-◌, ◌∙◌, ℕ, refl, sym, ap, subst, inl, ⊎_elim, arith, suc}
+use Rattle.std.proofs.Common.{◌≡◌, ◌<◌, ◌≤◌, ◌-◌, ◌∙◌, ℕ, sym, ap, subst, ⊎_elim, arith, suc}
 use Rattle.std.proofs.lemmas.Bool.{cases_lt, not-false, not-true}
-use Rattle.cleary_core.specs.Cells.{cell_at, mark_of}
+use Rattle.cleary_core.specs.Cells.{cell_at}
 use Rattle.cleary_core.specs.Access.{Reaches}
 use Rattle.cleary_core.specs.declared.cells.CellMarks.{CellMarks}
 use Rattle.cleary_core.proofs.Fronting.{counted_more, counted_none, fronted}

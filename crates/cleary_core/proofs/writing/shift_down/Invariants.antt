@@ -9,7 +9,7 @@ invariant-loop-at g l = record {
   high : l.at ≤ l.place;
   words : g.A.ReadWords.spans l.access (word_count l.sizes);
   writes : g.A.WriteWords.writes l.fn.access l.access;
-  there : l.there ≡ cell_at l.sizes (g.A.WriteWords.words l.access) l.at;
+  virgin : l.virgin ≡ (cell_at l.sizes (g.A.WriteWords.words l.access) l.at).virgin;
   below : (j : ℕ) → j < l.free → cell_at l.sizes (g.A.WriteWords.words l.access) j ≡ cell_at l.sizes (g.A.WriteWords.words l.fn.access) j;
   moved : (j : ℕ) → l.free ≤ j → j < l.at → cell_at l.sizes (g.A.WriteWords.words l.access) j ≡ carried (cell_at l.sizes (g.A.WriteWords.words l.fn.access) j).virgin (cell_at l.sizes (g.A.WriteWords.words l.fn.access) (suc j));
   above : (j : ℕ) → l.at ≤ j → cell_at l.sizes (g.A.WriteWords.words l.access) j ≡ cell_at l.sizes (g.A.WriteWords.words l.fn.access) j;

@@ -9,7 +9,7 @@ invariant-loop-at g l = record {
   high : l.at ≤ l.free;
   words : g.A.ReadWords.spans l.access (word_count l.sizes);
   writes : g.A.WriteWords.writes l.fn.access l.access;
-  here : l.here ≡ cell_at l.sizes (g.A.WriteWords.words l.access) l.at;
+  virgin : l.virgin ≡ (cell_at l.sizes (g.A.WriteWords.words l.access) l.at).virgin;
   below : (j : ℕ) → j ≤ l.at → cell_at l.sizes (g.A.WriteWords.words l.access) j ≡ cell_at l.sizes (g.A.WriteWords.words l.fn.access) j;
   moved : (j : ℕ) → l.at ≤ j → j < l.free → cell_at l.sizes (g.A.WriteWords.words l.access) (suc j) ≡ carried (cell_at l.sizes (g.A.WriteWords.words l.fn.access) (suc j)).virgin (cell_at l.sizes (g.A.WriteWords.words l.fn.access) j);
   above : (j : ℕ) → l.free < j → cell_at l.sizes (g.A.WriteWords.words l.access) j ≡ cell_at l.sizes (g.A.WriteWords.words l.fn.access) j;
