@@ -1,7 +1,9 @@
 -- The text of a report: a line for each reply, numbered from 1, and the summary.
-use Rattle.std.specs.Prelude.{ℕ, ◌+◌, List, [], ◌∷◌, ◌++◌, codes, Option, Some, None, length, count_by, slice_index}
+use Rattle.std.specs.Prelude.{ℕ, ◌+◌, List, [], ◌∷◌, ◌++◌, codes, Option, Some, None, length, count_by, slice_index, if◌then◌else◌}
 use Rattle.std.specs.Fmt.{decimal}
-use Rattle.tdb_base.specs.Replies.{is_new}
+use Rattle.std.specs.Prelude.{◌&&◌, Bool, true, false, not, slice_index_or}
+use Rattle.std.specs.List.{zip}
+use Rattle.tdb_base.specs.Replies.{is_full, is_new}
 use Rattle.tdb_base.specs.declared.reply.Reply.{Reply}
 use Rattle.tdb_base.specs.declared.reply.Reply.TheVariants as r
 use Rattle.trace_csv.specs.declared.report.Summary.{Summary}
@@ -35,6 +37,22 @@ no_extras = record { ends = λ i reply. []; counts = [] }
 -- each line ends in the number of the worker that drew it
 abbrev pub drawers : List ℕ → Extras
 drawers drawn = record { ends = λ i reply. codes "," ++ decimal (slice_index drawn i); counts = [] }
+
+-- a line that is answered an identifier ends in whether it was marked first
+abbrev pub mark_ending : Bool → Reply → List ℕ
+mark_ending true reply = if is_full reply then [] else codes ",first"
+mark_ending false reply = if is_full reply then [] else codes ",again"
+
+-- how many lines end so that they were
+abbrev pub marked_count : List Reply → List Bool → ℕ
+marked_count replies firsts = count_by (λ line. not (is_full line.0) && line.1) (zip replies firsts)
+
+-- the lines' marks, and a count of those that were first
+abbrev pub marks : List Bool → ℕ → Extras
+marks firsts marked = record {
+  ends = λ i reply. mark_ending (slice_index_or firsts i false) reply;
+  counts = codes "marked " ++ decimal marked ++ codes "\n";
+}
 
 -- the lines of the replies, numbered from n + 1
 unfoldable pub lines_with : Extras → ℕ → List Reply → List ℕ
@@ -71,6 +89,10 @@ report replies summary = report_with no_extras replies summary
 -- the report with the worker of each line
 abbrev pub drawn_report : List Reply → List ℕ → Summary → List ℕ
 drawn_report replies drawn summary = report_with (drawers drawn) replies summary
+
+-- the report with the mark of each line
+abbrev pub marked_report : List Reply → List Bool → Summary → List ℕ
+marked_report replies firsts summary = report_with (marks firsts (marked_count replies firsts)) replies summary
 
 -- the summary of some replies: how many they are, and how many of them are new
 abbrev pub summary_of : List Reply → Option Stats → Summary

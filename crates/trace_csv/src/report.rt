@@ -24,4 +24,4 @@ pub struct Summary {
 mod extras;
 mod text;
 
-pub use text::{write_drawn, write_report, write_summary};
+pub use text::{write_drawn, write_marks, write_report, write_summary};

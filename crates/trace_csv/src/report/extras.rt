@@ -1,7 +1,7 @@
 //! What reports have beside their replies and summaries.
 ghost use Rattle.std.specs.Prelude.{◌≡◌, ◌+◌, ◌<◌, ◌≤◌, ◌++◌, length};
 ghost use Rattle.trace_csv.specs.Page.{HasRoom};
-ghost use Rattle.trace_csv.specs.Report.{Extras, drawers, no_extras};
+ghost use Rattle.trace_csv.specs.Report.{Extras, drawers, marks, no_extras};
 
 use crate::page::Page;
 use tdb_base::Reply;
@@ -69,4 +69,40 @@ impl<'a> AddExtras for Drawers<'a> {
     }
 
     fn add_counts(&self, _page: &mut Page) {}
+}
+
+/// A report whose lines end in whether they were marked first, where they have an identifier, and whose
+/// summary counts those that were.
+#[derive(Drop)]
+pub(crate) struct Marks<'a> {
+    /// Whether each line was.
+    pub(crate) firsts: &'a [bool],
+    /// How many lines end so that they were.
+    pub(crate) marked: u64,
+}
+
+impl<'a> AddExtras for Marks<'a> {
+    ghost use Rattle.std.specs.Prelude.{◌<◌, length};
+    ghost use Rattle.trace_csv.specs.Report.{marks};
+
+    ghost extras = { λ e. marks e.firsts.now e.marked };
+
+    ghost knows = { λ e line. line < length e.firsts.now };
+
+    fn add_end(&self, line: usize, reply: Reply, page: &mut Page) {
+        if reply.is_full() {
+            return;
+        }
+        if self.firsts[line] {
+            page.add(b",first");
+        } else {
+            page.add(b",again");
+        }
+    }
+
+    fn add_counts(&self, page: &mut Page) {
+        page.add(b"marked ");
+        page.add_number(self.marked);
+        page.add(b"\n");
+    }
 }

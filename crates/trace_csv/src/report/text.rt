@@ -1,16 +1,17 @@
 //! The report's text goes to a sink.
 ghost use Rattle.std.specs.Prelude.{◌≡◌, ◌+◌, ◌<◌, ◌≤◌, ◌^◌, ◌++◌, ℕ, [], All, Some, length, true, OnOk, OnErr};
-ghost use Rattle.std.specs.Prelude.{count_by};
+ghost use Rattle.std.specs.Prelude.{◌&&◌, count_by, if◌then◌else◌, not};
 ghost use Rattle.std.specs.Io.KnownBytes.{Appends};
 ghost use Rattle.tdb_base.specs.Causes.{HasCause};
-ghost use Rattle.tdb_base.specs.Replies.{is_new};
+ghost use Rattle.tdb_base.specs.Replies.{is_full, is_new};
 ghost use Rattle.trace_csv.specs.OneReport.{HasWordId};
 ghost use Rattle.trace_csv.specs.Output.{TakesFront};
 ghost use Rattle.trace_csv.specs.Page.{HasRoom};
 ghost use Rattle.trace_csv.specs.Report.{answer_ending, drawn_report, line_ending, named_line, report};
+ghost use Rattle.trace_csv.specs.Report.{marked_count, marked_report};
 ghost use Rattle.trace_csv.specs.Report.{report_with, stats_text, summary_text, summary_with};
 
-use super::extras::{AddExtras, Drawers, NoExtras};
+use super::extras::{AddExtras, Drawers, Marks, NoExtras};
 use super::{Stats, Summary};
 use crate::output::WriteFault;
 use crate::page::{Page, close, make_room};
@@ -57,6 +58,53 @@ pub fn write_drawn<K: Sink>(
     ensures cause { HasCause (K.faults sink.old) (K.faults sink.new) result }
 {
     write_with(replies, &Drawers { drawn }, summary, sink)
+}
+
+/// The same as `write_report`, but a line of a reply that is not full ends in `,first` or `,again`, as the line
+/// was marked, and after the count of distinct lines the summary has `marked` and the number of lines that end
+/// in `,first`.
+pub fn write_marks<K: Sink>(
+    replies: &[Reply],
+    first: &[bool],
+    summary: &Summary,
+    sink: &mut K,
+) -> Result<(), WriteFault>
+    requires lines { summary.now.lines ≡ length replies.now }
+    requires distinct { summary.now.distinct ≡ count_by is_new replies.now }
+    requires marks { length first.now ≡ length replies.now }
+    ensures ok { OnOk result
+        (Appends (K.taken sink.old) (K.taken sink.new) (marked_report replies.now first.now summary.now)) }
+    ensures fit { OnOk result (All HasWordId replies.now) }
+    ensures settled { OnOk result (K.settled sink.new ≡ true) }
+    ensures front { OnErr result
+        (TakesFront (K.taken sink.old) (K.taken sink.new) (marked_report replies.now first.now summary.now)) }
+    ensures cause { HasCause (K.faults sink.old) (K.faults sink.new) result }
+{
+    let marked = count_marked(replies, first);
+    let extras = Marks {
+        firsts: first,
+        marked,
+    };
+    write_with(replies, &extras, summary, sink)
+}
+
+// 1 for a line that was marked first, and 0 for others.
+fn count_mark(reply: Reply, first: bool) -> u64
+    ensures { result ≡ (if not (is_full reply) && first then 1 else 0) }
+{
+    if first && !reply.is_full() { 1 } else { 0 }
+}
+
+// How many lines were marked first.
+fn count_marked(replies: &[Reply], firsts: &[bool]) -> u64
+    requires { length firsts.now ≡ length replies.now }
+    ensures { result ≡ marked_count replies.now firsts.now }
+{
+    let mut marked = 0u64;
+    for i in 0..replies.len() {
+        marked += count_mark(replies[i], firsts[i]);
+    }
+    marked
 }
 
 // A report with what else it has.
