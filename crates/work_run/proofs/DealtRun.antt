@@ -11,8 +11,8 @@ use Rattle.pair_nodes.specs.Roots.{Refusals}
 use Rattle.work_run.specs.declared.worker.Worker.{Worker}
 use Rattle.work_run.specs.Dealing.{IsDealt}
 use Rattle.work_run.specs.Owned.{owned, dealt_to}
-use Rattle.work_run.specs.Ran.{HasRunOver}
-use Rattle.work_run.specs.Telling.{Telling, entries_at}
+use Rattle.work_run.specs.Ran.{HasRunTask}
+use Rattle.work_run.specs.Telling.{Telling}
 use Rattle.work_run.specs.ToCome.{dealt_lines}
 use Rattle.work_run.specs.Work.{CanWork, HasTakenLines, HasWorked}
 use Rattle.work_run.specs.Workers.{AreSplitWorkers, AreJoined}
@@ -56,7 +56,7 @@ module _ {T A : Type 0} (part : Part T) (store : Store) (telling : Telling A) (t
     pub dealt_run : Refusals part → (new : PassOf T) (answers : List A) (seen : List (Worker T (List ℕ) A)) (m : ℕ) → seen ≡ after → m ≡ length trace → 1 ≤ workers → length all_workers ≡ workers → length answers ≡ m
         → ((j : ℕ) (d : Worker T (List ℕ) A) → j < length seen → picked answers (owned m (dealt_to workers block) j) ≡ (get_or seen j d).answers.items)
         → AreJoined part store now new (map (λ (w : Worker T (List ℕ) A). w.pass) after)
-        → HasRunOver (mine (length trace) workers block) (entries_at telling trace answers) part store.about trace (map telling.reply answers) workers base new
+        → HasRunTask telling part store.about trace answers workers block base new
     dealt_run refusals new answers seen m is long some all_split each placed joint =
         let owner = dealt_to workers block in
         let counted = subst (λ (k : ℕ). (j : ℕ) (d : Worker T (List ℕ) A) → j < length seen → picked answers (owned k owner j) ≡ (get_or seen j d).answers.items) long placed in

@@ -7,6 +7,8 @@ use Rattle.std.proofs.lemmas.List.Elements.{All-get_or}
 use Rattle.tdb_base.specs.History.{Vector}
 use Rattle.tdb_base.specs.Lines.{picked}
 use Rattle.tdb_base.proofs.PickLemmas.{picked_length}
+use Rattle.tdb_base.specs.declared.reply.Reply.{Reply}
+use Rattle.pair_rule.specs.declared.sizes.About.{About}
 use Rattle.pair_rule.specs.declared.pass.PassOf.{PassOf}
 use Rattle.pair_rule.specs.Part.{Store, Part}
 use Rattle.pair_rule.specs.Rest.{AtRest}
@@ -14,15 +16,16 @@ use Rattle.pair_nodes.specs.Roots.{Refusals}
 use Rattle.block_claims.specs.Drawers.{Pool}
 use Rattle.work_run.specs.declared.worker.Worker.{Worker}
 use Rattle.work_run.specs.BlockLines.{LinesDrawn, IsFreshLines, blocks_of, drawn_blocks, lines_of_blocks}
-use Rattle.work_run.specs.Drew.{AnswerTheirLines, ArePlaced, HasDrawnFrom}
+use Rattle.work_run.specs.Drew.{AnswerTheirLines, ArePlaced, HasDrawnFrom, HasRunDrawn, HasRunDrawnTask}
 use Rattle.work_run.specs.Owned.{owned}
-use Rattle.work_run.specs.Ran.{HasRunOver}
-use Rattle.work_run.specs.Telling.{Telling, entries_at}
+use Rattle.work_run.specs.Ran.{HasRunTold}
+use Rattle.work_run.specs.Telling.{Telling, insertion}
 use Rattle.work_run.specs.Work.{CanWork, HasTakenLines, HasWorked}
 use Rattle.work_run.specs.Workers.{AreSplitWorkers, AreJoined}
 use Rattle.work_run.proofs.BlockLines.{blocks_below}
 use Rattle.work_run.proofs.DrawingLines.{gave_all}
 use Rattle.work_run.proofs.Running.{can_work, runs}
+use Rattle.work_run.proofs.Telling.{insertion_run}
 
 module _ {T A : Type 0} (part : Part T) (store : Store) (telling : Telling A) (trace : List Vector) (n workers block : ℕ) (some : 0 < block) (same : n ≡ length trace) (pool : Pool) (base now : PassOf T) (all_workers after : List (Worker T LinesDrawn A))
     (split : AreSplitWorkers part store drawn_blocks.left (λ j lines. IsFreshLines pool n block lines) base now all_workers) where
@@ -66,7 +69,7 @@ module _ {T A : Type 0} (part : Part T) (store : Store) (telling : Telling A) (t
     -- all of them together ran
     pub drawn_run : Refusals part → (new : PassOf T) (answers : List A) (drawn : List ℕ) → length all_workers ≡ workers → ArePlaced n workers block after answers drawn
         → AreJoined part store now new (map (λ (w : Worker T LinesDrawn A). w.pass) after)
-        → HasRunOver (owned (length trace) (slice_index drawn)) (entries_at telling trace answers) part store.about trace (map telling.reply answers) workers base new
+        → HasRunTold (owned (length trace) (slice_index drawn)) telling part store.about trace answers workers base new
     drawn_run refusals new answers drawn all_split are joint =
         let owner : ℕ → ℕ = slice_index drawn in
         let among : (i : ℕ) → i < length trace → owner i < workers = λ i lt. All-get_or (λ (j : ℕ). j < workers) drawn i 0 (let long = are.drew.one_each in omega (arith, lt, long, same)) are.drew.among in
@@ -81,3 +84,11 @@ module _ {T A : Type 0} (part : Part T) (store : Store) (telling : Telling A) (t
         λ j d lt. ap (λ (m : ℕ). picked answers (owned m owner j)) (sym same) ∙ are.placed j d lt in
         runs part refusals store drawn_blocks telling (λ j lines. IsFreshLines pool n block lines) base now new trace answers owner workers among
         all_workers after split all_split took all_after (are.one_each ∙ same) placed joint
+
+-- a run of insertions, by its replies
+pub drawn_insertion_run : {T : Type 0} (part : Part T) (about : About) (trace : List Vector) (replies : List Reply) (drawn : List ℕ) (workers block : ℕ) (base new : PassOf T)
+    → HasRunDrawnTask insertion part about trace replies drawn workers block base new → HasRunDrawn part about trace replies drawn workers block base new
+drawn_insertion_run part about trace replies drawn workers block base new run = record {
+  drew = run.drew;
+  ran = insertion_run part about trace replies (owned (length trace) (slice_index drawn)) workers base new run.ran;
+}

@@ -12,6 +12,9 @@ pub mod Owned
 pub mod Telling
 pub mod TakenLines
 pub mod Working
+pub mod Marked
+pub mod MarkParts
+pub mod MarkLaws
 pub mod Placing
 pub mod DealtRun
 pub mod BlockLines

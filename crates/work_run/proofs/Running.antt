@@ -5,7 +5,7 @@ use Rattle.std.specs.List.{range_with_len}
 use Rattle.std.proofs.lemmas.List.FromFn.{length-map-range_with_len}
 use Rattle.std.proofs.lemmas.List.{get_or-map, length-map, nil_from_length}
 use Rattle.std.proofs.lemmas.List.Sums.{sum_by-cons}
-use Rattle.std.proofs.lemmas.Option.{slice_get_within}
+use Rattle.std.proofs.lemmas.Option.{get_or_from_slice_get, slice_get_within}
 use Rattle.tree_shape.specs.Tree.{Has, IsPart}
 use Rattle.tdb_base.specs.Agrees.{AgreesOverAmongOthers}
 use Rattle.tdb_base.specs.History.{Vector, Entry, History, calls}
@@ -13,7 +13,7 @@ use Rattle.tdb_base.specs.Legal.{IsLegal, Extends}
 use Rattle.tdb_base.specs.Lines.{picked}
 use Rattle.tdb_base.specs.declared.reply.Reply.{Reply}
 use Rattle.tdb_base.proofs.AgreesLemmas.{calls-some}
-use Rattle.tdb_base.proofs.ListLemmas.{at-contained}
+use Rattle.tdb_base.proofs.ListLemmas.{at-contained, at-within}
 use Rattle.tdb_base.proofs.PickLemmas.{picked_length}
 use Rattle.tdb_base.proofs.TallyLemmas.{contained-at}
 use Rattle.pair_rule.specs.declared.view.View.{View}
@@ -35,12 +35,12 @@ use Rattle.work_run.specs.Inserted.{puts_of, Inserted}
 use Rattle.work_run.specs.Owned.{owned}
 use Rattle.work_run.specs.Telling.{Telling, told_entries, entries_at}
 use Rattle.work_run.specs.Work.{CanWork, HasTakenLines}
-use Rattle.work_run.specs.Ran.{HasRunOver, KeepsPass, OneHistoryOver, FullAreBarred, NewNodesAreOfLines, puts_of_worker, puts_of_all}
+use Rattle.work_run.specs.Ran.{HasRunTold, KeepsPass, OneHistoryOver, FullAreBarred, NewNodesAreOfLines, puts_of_worker, puts_of_all}
 use Rattle.work_run.proofs.Answered.{barred_more, of_one_more}
 use Rattle.work_run.proofs.Elements.{has_or_not, has_map, has_unmap, has_place, placed, numbered_at, at_numbered}
 use Rattle.work_run.proofs.SplitInTurn.{given, after_splits_stay, whole_again}
 use Rattle.work_run.proofs.Joins.{numbers_first, numbers_other}
-use Rattle.work_run.proofs.Mine.{picked_at, picked_has, picked_map}
+use Rattle.work_run.proofs.Mine.{all_at, picked_at, picked_has, picked_map}
 use Rattle.work_run.proofs.Owned.{owned_below, owned_at}
 use Rattle.work_run.proofs.Telling.{told_picked}
 
@@ -379,6 +379,21 @@ module _ {T S A : Type 0} (part : Part T) (refusals : Refusals part) (store : St
         roots = subst (λ (pairs : List (ℕ × ℕ)). IsPart pairs (root_pairs part (view new))) (ap (λ (u : View T). root_pairs part u) now_is ∙ (λ i. part.roots (stay.about i) (stay.seen i) (stay.root i))) joint.base_taken.roots;
       }
 
-  -- all of it
-  pub runs : HasRunOver (owned (length trace) owner) (entries_at telling trace answers) part store.about trace (map telling.reply answers) workers base new
-  runs = record { one_history = history_run; kept = kept_run; whole = whole_run; nodes = nodes_run; full = full_run; probes = probes_run }
+  -- each answer is one of a worker's
+  proper_run : All telling.proper answers
+  proper_run = λ k d lt.
+      (let line : k < length trace = omega (arith, lt, answer_each) in
+      let j : ℕ = owner k in let at = owned_at (length trace) owner k line in
+      let below : All (λ i. i < length answers) (lines_of j) = subst (λ (n : ℕ). All (λ i. i < n) (lines_of j)) (sym answer_each) (owned_below (length trace) owner j) in
+      let a = at-within answers k lt in
+      let among = owners k line in
+      let w = (placed after j (omega (arith, among, all_after, all_split))).one in
+      let there : slice_get (get_or after j w).answers.items at.0 ≡ Some a.0 = ap (λ (xs : List A). slice_get xs at.0) (sym (are_placed j w (omega (arith, among, all_after, all_split)))) ∙ picked_at answers (lines_of j) at.0 k a.0 below at.1 a.1 in
+      subst telling.proper (sym (get_or_from_slice_get answers k a.0 d a.1))
+      (all_at telling.proper (get_or after j w).answers.items at.0 a.0 (worked j w (omega (arith, among, all_split))).proper there))
+
+  pub runs : HasRunTold (owned (length trace) owner) telling part store.about trace answers workers base new
+  runs = record {
+    proper = proper_run;
+    ran = record { one_history = history_run; kept = kept_run; whole = whole_run; nodes = nodes_run; full = full_run; probes = probes_run };
+  }

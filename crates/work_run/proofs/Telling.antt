@@ -11,7 +11,7 @@ use Rattle.tdb_base.proofs.ListLemmas.{at-within}
 use Rattle.pair_rule.specs.declared.pass.PassOf.{PassOf}
 use Rattle.pair_rule.specs.declared.sizes.About.{About}
 use Rattle.pair_rule.specs.Part.{Part}
-use Rattle.work_run.specs.Ran.{HasRunOver}
+use Rattle.work_run.specs.Ran.{HasRunOver, HasRunTold}
 use Rattle.work_run.specs.Telling.{Telling, told_entries, entries_of_both, entries_at, insertion}
 
 module _ {A : Type 0} (telling : Telling A) (c : ℕ) where
@@ -44,9 +44,9 @@ insertion_of_both c (Some v) (Some reply) = refl
 
 -- a run of insertions, by its replies
 pub insertion_run : {T : Type 0} (part : Part T) (about : About) (trace : List Vector) (replies : List Reply) (lines_of : ℕ → List ℕ) (workers : ℕ) (base new : PassOf T)
-    → HasRunOver lines_of (entries_at insertion trace replies) part about trace (map insertion.reply replies) workers base new
+    → HasRunTold lines_of insertion part about trace replies workers base new
     → HasRunOver lines_of (entries_of_insertion trace replies) part about trace replies workers base new
 insertion_run part about trace replies lines_of workers base new run =
     subst (λ (rs : List Reply). HasRunOver lines_of (entries_of_insertion trace replies) part about trace rs workers base new) (map-id replies)
     (subst (λ (es : ℕ → ℕ → History). HasRunOver lines_of es part about trace (map insertion.reply replies) workers base new)
-    (λ i c k. insertion_of_both c (slice_get trace k) (slice_get replies k) i) run)
+    (λ i c k. insertion_of_both c (slice_get trace k) (slice_get replies k) i) run.ran)

@@ -1,7 +1,8 @@
 -- A worker takes one line after another.
 use Rattle.std.proofs.Common.{◌≡◌, ℕ, List, [], ◌∷◌, ◌++◌, length, map, Some, refl, sym, ◌∙◌, subst, append-nil}
-use Rattle.std.specs.Prelude.{slice_get}
+use Rattle.std.specs.Prelude.{All, slice_get}
 use Rattle.std.proofs.lemmas.List.{length-map, map-append}
+use Rattle.std.proofs.lemmas.List.Elements.{All-nil, All-push}
 use Rattle.tdb_base.specs.History.{Vector, History}
 use Rattle.tdb_base.specs.Lines.{picked}
 use Rattle.tdb_base.specs.declared.reply.Reply.{Reply}
@@ -26,6 +27,7 @@ module _ {T S A : Type 0} (part : Part T) (refusals : Refusals part) (store : St
     given = adds.none w.lines;
     inserted = subst (λ (xs : List A). Inserted part store [] (map telling.reply xs) (λ c. told_entries telling c [] xs) w.pass w.pass) (sym empty)
         (none_inserted part refusals store w.pass rests);
+    proper = subst (λ (xs : List A). All telling.proper xs) (sym empty) (All-nil telling.proper);
   }
 
   -- one line more
@@ -33,9 +35,10 @@ module _ {T S A : Type 0} (part : Part T) (refusals : Refusals part) (store : St
       → HasTakenLines part store giving telling trace lines first old
       → slice_get trace i ≡ Some v → giving.gives old.lines (i ∷ []) new.lines
       → Inserted part store (v ∷ []) (telling.reply a ∷ []) (λ c. telling.entries c v a) old.pass new.pass
+      → telling.proper a
       → new.answers.items ≡ old.answers.items ++ a ∷ [] → new.number ≡ old.number
       → HasTakenLines part store giving telling trace (lines ++ i ∷ []) first new
-  taken_more first old new lines i v a t at given one pushed same =
+  taken_more first old new lines i v a t at given one own pushed same =
       let answers = old.answers.items in
       let vectors = picked trace lines in
       let each : length answers ≡ length vectors = sym (length-map answers telling.reply) ∙ t.inserted.one_each in
@@ -50,6 +53,7 @@ module _ {T S A : Type 0} (part : Part T) (refusals : Refusals part) (store : St
         number = same ∙ t.number;
         given = adds.more first.lines old.lines new.lines lines (i ∷ []) t.given given;
         inserted = subst (λ (xs : List A). Inserted part store (picked trace (lines ++ i ∷ [])) (map telling.reply xs) (λ c. told_entries telling c (picked trace (lines ++ i ∷ [])) xs) first.pass new.pass) (sym pushed) as_picked;
+        proper = subst (λ (xs : List A). All telling.proper xs) (sym pushed) (All-push telling.proper answers a t.proper own);
       }
 
   -- no line more
@@ -61,4 +65,5 @@ module _ {T S A : Type 0} (part : Part T) (refusals : Refusals part) (store : St
     given = subst (λ (ls : List ℕ). giving.gives first.lines ls new.lines) (append-nil lines) (adds.more first.lines old.lines new.lines lines [] t.given given);
     inserted = subst (λ (q : PassOf T). Inserted part store (picked trace lines) (map telling.reply new.answers.items) (λ c. told_entries telling c (picked trace lines) new.answers.items) first.pass q) (sym pass)
         (subst (λ (xs : List A). Inserted part store (picked trace lines) (map telling.reply xs) (λ c. told_entries telling c (picked trace lines) xs) first.pass old.pass) (sym answers) t.inserted);
+    proper = subst (λ (xs : List A). All telling.proper xs) (sym answers) t.proper;
   }

@@ -12,7 +12,8 @@ use Rattle.block_claims.specs.Drawers.{Pool, Drawing, IsNew}
 use Rattle.work_run.specs.declared.worker.Worker.{Worker}
 use Rattle.work_run.specs.BlockLines.{LinesDrawn, HasDrawnAll, block_count, blocks_of, lines_of_blocks}
 use Rattle.work_run.specs.Owned.{owned}
-use Rattle.work_run.specs.Ran.{HasRunOver}
+use Rattle.work_run.specs.Ran.{HasRunOver, HasRunTold}
+use Rattle.work_run.specs.Telling.{Telling}
 
 -- a list of the workers that drew a trace's lines: one a line, of so many, and one for all lines of a block
 pub record AreDrawnBy (lines workers block : ℕ) (drawn : List ℕ) : Type 0 where
@@ -28,6 +29,14 @@ pub record HasRunDrawn {T : Type 0} (part : Part T) (about : About) (trace : Lis
   pub drew : AreDrawnBy (length trace) workers block drawn
   pub ran : HasRunOver (owned (length trace) (slice_index drawn)) (entries_of_insertion trace replies)
       part about trace replies workers old new
+
+-- the same, where the answers to the lines tell of their replies and entries
+pub record HasRunDrawnTask {T A : Type 0} (telling : Telling A) (part : Part T) (about : About)
+    (trace : List Vector) (answers : List A) (drawn : List ℕ) (workers block : ℕ) (old new : PassOf T)
+    : Type 0 where
+  pub drew : AreDrawnBy (length trace) workers block drawn
+  pub ran : HasRunTold (owned (length trace) (slice_index drawn)) telling part about trace answers workers
+      old new
 
 -- the numbers of a trace whose blocks are drawn are in their ranges
 pub record IsDrawnTrace (lines block : ℕ) : Type 0 where

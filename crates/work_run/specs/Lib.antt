@@ -8,6 +8,7 @@ pub mod Inserted
 pub mod Workers
 pub mod Work
 pub mod Ran
+pub mod Marks
 pub mod BlockLines
 pub mod Drew
 pub mod Rooms

@@ -1,7 +1,7 @@
 -- What a run of workers leaves: the replies to a trace's lines, and the pass into which the workers' passes
 -- were joined.
 use Rattle.std.specs.Prelude.{◌≡◌, ◌+◌, ◌*◌, ◌-◌, ◌<◌, ◌≤◌, ◌⊎◌, ℕ, List, Some, None, Contains, length, slice_get}
-use Rattle.std.specs.Prelude.{map, sum}
+use Rattle.std.specs.Prelude.{All, map, sum}
 use Rattle.std.specs.List.{range_with_len}
 use Rattle.tree_shape.specs.Tree.{Has, IsPart}
 use Rattle.tdb_base.specs.Agrees.{AgreesOverAmongOthers, AgreesOver, entries_of_insertion}
@@ -16,6 +16,7 @@ use Rattle.pair_rule.specs.Part.{Part, root_pairs}
 use Rattle.work_run.specs.Full.{Barred, IsOfOne}
 use Rattle.work_run.specs.Inserted.{puts_of}
 use Rattle.work_run.specs.Owned.{owned}
+use Rattle.work_run.specs.Telling.{Telling, entries_at}
 
 -- Which lines each worker had, and which entries a line has, are what ways of running differ in.
 module _ (lines_of : ℕ → List ℕ) (line_entries : ℕ → ℕ → History) where
@@ -79,6 +80,19 @@ pub record HasRunOver {T : Type 0} (lines_of : ℕ → List ℕ) (line_entries :
   pub nodes : NewNodesAreOfLines about trace (view old) (view new)
   pub full : FullAreBarred part about trace replies (view new)
   pub probes : (view new).probes ≤ (view old).probes + puts_of_all about trace replies lines_of workers
+
+-- the same, where the answers to the lines tell of their replies and entries
+pub record HasRunTold {T A : Type 0} (lines_of : ℕ → List ℕ) (telling : Telling A) (part : Part T)
+    (about : About) (trace : List Vector) (answers : List A) (workers : ℕ) (old new : PassOf T) : Type 0 where
+  pub proper : All telling.proper answers
+  pub ran : HasRunOver lines_of (entries_at telling trace answers) part about trace
+      (map telling.reply answers) workers old new
+
+-- and the lines are dealt out in blocks of `block` lines
+abbrev pub HasRunTask : {T A : Type 0} → Telling A → Part T → About → List Vector → List A
+    → (workers block : ℕ) → (old new : PassOf T) → Type 0
+HasRunTask telling part about trace answers workers block old new =
+    HasRunTold (mine (length trace) workers block) telling part about trace answers workers old new
 
 -- the same, where the lines are dealt out in blocks of `block` lines, and inserted
 abbrev pub OneHistory : {T : Type 0} → About → List Vector → List Reply → (workers block : ℕ)

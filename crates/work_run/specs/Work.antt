@@ -1,5 +1,5 @@
 -- A worker before and after it works through its lines.
-use Rattle.std.specs.Prelude.{◌≡◌, ◌≤◌, ℕ, List, [], map, vec_capacity}
+use Rattle.std.specs.Prelude.{◌≡◌, ◌≤◌, ℕ, List, [], All, map, vec_capacity}
 use Rattle.tdb_base.specs.History.{Vector}
 use Rattle.tdb_base.specs.Lines.{picked}
 use Rattle.pair_rule.specs.Part.{Store, Part}
@@ -25,6 +25,7 @@ module _ {T S A : Type 0} (part : Part T) (store : Store) (giving : Giving S) wh
     pub given : giving.gives old.lines lines new.lines
     pub inserted : Inserted part store (picked trace lines) (map telling.reply new.answers.items)
         (λ caller. told_entries telling caller (picked trace lines) new.answers.items) old.pass new.pass
+    pub proper : All telling.proper new.answers.items
 
   -- and there are no more for it
   pub record HasWorked (telling : Telling A) (trace : List Vector) (old new : Worker T S A) : Type 0 where

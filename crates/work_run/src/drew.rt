@@ -12,13 +12,13 @@ use crate::block_lines::{BlockLines, block_count};
 use crate::drawn::DrawnBy;
 use crate::place::place;
 use crate::room::Room;
+use crate::shared::Shared;
 use crate::worker::Worker;
 use crate::workers::join_workers;
 use block_claims::{Claims, Drawer};
-use pair_rule::{Pass, RootPart};
+use pair_rule::PassOf;
 use std::alloc::Global;
 use tdb_base::NoMemory;
-use tree_store::TreeStore;
 
 /// What so many workers need to draw the blocks of a trace: claims, a drawer for each, and room for what is
 /// told when all lines are answered.
@@ -150,18 +150,18 @@ fn tell_workers<'a, T, A: Copy>(
 
 /// The worker of each line; appends the answer to each line, in the order of the lines, and joins the workers'
 /// passes into the pass.
-pub(crate) fn finish_drawn<'a, R: RootPart<W, F>, A: Copy, const W: u32, const F: u32>(
+pub(crate) fn finish_drawn<'a, S: Shared, A: Copy>(
     claims: &Claims,
-    store: &TreeStore<R, W, F>,
-    pass: &mut Pass<R, W, F>,
-    all_workers: Vec<Worker<R::View, BlockLines<'a>, A>>,
-    room: Room<R::View, A>,
+    store: &S,
+    pass: &mut PassOf<S::View>,
+    all_workers: Vec<Worker<S::View, BlockLines<'a>, A>>,
+    room: Room<S::View, A>,
     lines: u64,
     block: u64,
     answers: &mut Vec<A>,
 ) -> Vec<u32>
-    requires rest { AtRest R.part store.now pass.old }
-    requires rests { All (λ w. AtRest R.part store.now w.pass) all_workers.items }
+    requires rest { AtRest S.part (S.store store.now) pass.old }
+    requires rests { All (λ w. AtRest S.part (S.store store.now) w.pass) all_workers.items }
     requires drawn { All (λ w. HasDrawnFrom claims.now lines block w.lines) all_workers.items }
     requires answered { AnswerTheirLines lines block all_workers.items }
     requires all { vec_len all_workers ≡ claims.now.totals.drawers }
@@ -173,7 +173,7 @@ pub(crate) fn finish_drawn<'a, R: RootPart<W, F>, A: Copy, const W: u32, const F
     requires answers_room { lines ≤ vec_capacity answers.old }
     ensures placed { ArePlaced lines (vec_len all_workers.entry) block all_workers.entry.items answers.new.items
         result.items }
-    ensures joined { AreJoined R.part store.now pass.old pass.new (map (λ w. w.pass) all_workers.entry.items) }
+    ensures joined { AreJoined S.part (S.store store.now) pass.old pass.new (map (λ w. w.pass) all_workers.entry.items) }
 {
     let (rest, drawn) = tell_workers(claims, all_workers, room, lines, block);
     place(&rest, lines, &drawn, answers);

@@ -9,9 +9,11 @@ mod drawn;
 mod drawn_run;
 mod drew;
 mod lines;
+mod mark;
 mod place;
 mod room;
 mod run;
+mod shared;
 mod supply;
 mod task;
 mod turns;
@@ -21,6 +23,7 @@ mod workers;
 
 pub use drawn_run::{run_drawn, run_drawn_waiting};
 pub use lines::{line_of, lines_are_dealt_out};
+pub use mark::{mark_lines, mark_lines_waiting, marks_are_counted};
 pub use run::{puts_are_few, run_lines, run_lines_waiting};
 pub use worker::Worker;
 

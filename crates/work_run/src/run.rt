@@ -1,23 +1,64 @@
-//! Workers insert the lines of a trace.
+//! Workers do a task with the lines of a trace, which are dealt out to them; and insert them, without more.
 ghost use Rattle.std.specs.Prelude.{◌≡◌, ◌≤◌, ◌^◌, IfOk, OnErr, All, length};
 ghost use Rattle.pair_rule.specs.Rest.{AtRest};
 ghost use Rattle.region_root.specs.Compact.{compact};
 ghost use Rattle.root_plain.specs.Plain.{plain};
 ghost use Rattle.tree_store.specs.Vectors.{IsVector};
 ghost use Rattle.work_run.specs.Workers.{Unused};
-ghost use Rattle.work_run.specs.Ran.{HasRun, FewPuts};
+ghost use Rattle.work_run.specs.Ran.{HasRun, HasRunTask, FewPuts};
 
 use crate::dealt::Dealt;
 use crate::place::place;
-use crate::task::{CompactInsertion, PlainInsertion};
+use crate::shared::{Compact, Plain, Shared};
+use crate::task::{Insertion, Task};
 use crate::work::work_at_once;
 use crate::workers::{join_workers, split_workers};
+use pair_rule::PassOf;
 use std::alloc::Global;
 use std::sync::Wait;
 use std::thread::Threads;
 use tdb_base::{Gate, NoMemory, Reply};
 use trace_csv::Trace;
 use tree_store::{CompactPass, CompactStore, PlainPass, PlainStore};
+
+/// Lets 1 to 64 workers do the task with the lines of a trace, each with a pass of its own that is split from
+/// `pass` and joined into it again: the answer to each line. All memory is taken before the first line: after
+/// `NoMemory` nothing was done with any, and the pass has what it had.
+pub(crate) fn run_task<R: Threads + Sync, S: Shared, T: Task, G: Gate>(
+    rt: &R,
+    alloc: Global,
+    store: &S,
+    task: &T,
+    pass: &mut PassOf<S::View>,
+    trace: &Trace,
+    workers: u64,
+    block: u64,
+    gate: &G,
+) -> Result<Vec<T::Answer>, NoMemory>
+    requires fits { T.fits task.now (S.store store.now).about.flags }
+    requires rest { AtRest S.part (S.store store.now) pass.old }
+    requires lines { length trace.now ≤ 2 ^ 32 }
+    requires fit { All (IsVector (S.store store.now).about) trace.now }
+    requires workers { (1 ≤ workers) × (workers ≤ 64) }
+    requires block { (1 ≤ block) × (block ≤ 65536) }
+    ensures rest { AtRest S.part (S.store store.now) pass.new }
+    ensures ran { IfOk result (λ answers. HasRunTask (T.telling task.now) S.part (S.store store.now).about
+        trace.now answers.items workers block pass.old pass.new) }
+    ensures refused { OnErr result (Unused pass.old pass.new) }
+{
+    let dealt = Dealt {
+        lines: trace.len(),
+        workers,
+        block,
+    };
+    let mut dealing = dealt;
+    let mut answers = Vec::with_capacity(alloc, trace.len() as usize)?;
+    let mut all_workers = split_workers(alloc, store, pass, &mut dealing, workers)?;
+    work_at_once(rt, store, task, trace, &mut all_workers, gate);
+    place(&all_workers, trace.len(), &dealt, &mut answers);
+    join_workers(store, pass, all_workers);
+    Ok(answers)
+}
 
 /// Lets 1 to 64 workers insert the lines of a trace, each with a pass of its own that is split from `pass`
 /// and joined into it again: the reply to each line.
@@ -47,19 +88,10 @@ pub fn run_lines<R: Threads + Sync, G: Gate, const W: u32, const F: u32>(
         HasRun plain store.now.about trace.now replies.items workers block pass.old pass.new) }
     ensures refused { OnErr result (Unused pass.old pass.new) }
 {
-    let dealt = Dealt {
-        lines: trace.len(),
-        workers,
-        block,
-    };
-    let mut dealing = dealt;
-    let mut replies = Vec::with_capacity(alloc, trace.len() as usize)?;
-    let mut all_workers = split_workers(alloc, store, pass, &mut dealing, workers)?;
-    let task = PlainInsertion { store };
-    work_at_once(rt, &task, trace, &mut all_workers, gate);
-    place(&all_workers, trace.len(), &dealt, &mut replies);
-    join_workers(store, pass, all_workers);
-    Ok(replies)
+    let shared = Plain { store };
+    run_task(
+        rt, alloc, &shared, &Insertion, pass, trace, workers, block, gate,
+    )
 }
 
 /// The same over a compact store, but an insertion may wait for the lock of a root's region. A line is full
@@ -84,19 +116,10 @@ pub fn run_lines_waiting<R: Threads + Wait + Sync, G: Gate, const W: u32, const 
         HasRun (compact W F) store.now.about trace.now replies.items workers block pass.old pass.new) }
     ensures refused { OnErr result (Unused pass.old pass.new) }
 {
-    let dealt = Dealt {
-        lines: trace.len(),
-        workers,
-        block,
-    };
-    let mut dealing = dealt;
-    let mut replies = Vec::with_capacity(alloc, trace.len() as usize)?;
-    let mut all_workers = split_workers(alloc, store, pass, &mut dealing, workers)?;
-    let task = CompactInsertion { rt, store };
-    work_at_once(rt, &task, trace, &mut all_workers, gate);
-    place(&all_workers, trace.len(), &dealt, &mut replies);
-    join_workers(store, pass, all_workers);
-    Ok(replies)
+    let shared = Compact { rt, store };
+    run_task(
+        rt, alloc, &shared, &Insertion, pass, trace, workers, block, gate,
+    )
 }
 
 /// A tree has `slots - 2` inner positions, and no line has to be put at more: that bounds the nodes that a

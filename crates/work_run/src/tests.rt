@@ -2,6 +2,7 @@
 
 mod crowd;
 mod drawn;
+mod marks;
 mod schedules;
 mod waiting;
 

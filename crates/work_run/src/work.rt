@@ -3,6 +3,7 @@ ghost use Rattle.std.specs.Prelude.{◌≡◌, ℕ, ◌<◌, ◌≤◌, ◌^◌,
 ghost use Rattle.tree_store.specs.Vectors.{IsVector};
 ghost use Rattle.work_run.specs.Work.{CanWork, HasWorked};
 
+use crate::shared::Shared;
 use crate::supply::Supply;
 use crate::task::Task;
 use crate::worker::Worker;
@@ -13,21 +14,24 @@ use trace_csv::Trace;
 
 // The worker takes its lines one after the other, does the task with each, and keeps the answers. The gate is
 // called before and after each line.
-fn work_through<T: Task, S: Supply, G: Gate>(
+fn work_through<S: Shared, T: Task, P: Supply, G: Gate>(
+    store: &S,
     task: &T,
     trace: &Trace,
-    worker: &mut Worker<T::View, S, T::Answer>,
+    worker: &mut Worker<S::View, P, T::Answer>,
     gate: &G,
 )
+    requires fits { T.fits task.now (S.store store.now).about.flags }
     requires lines { length trace.now ≤ 2 ^ 32 }
-    requires fit { All (IsVector (T.store task.now).about) trace.now }
-    requires ready { CanWork T.part (T.store task.now) S.giving (length trace.now) worker.old }
-    ensures { HasWorked T.part (T.store task.now) S.giving T.telling trace.now worker.old worker.new }
+    requires fit { All (IsVector (S.store store.now).about) trace.now }
+    requires ready { CanWork S.part (S.store store.now) P.giving (length trace.now) worker.old }
+    ensures { HasWorked S.part (S.store store.now) P.giving (T.telling task.now) trace.now
+        worker.old worker.new }
 {
     while let Some(i) = worker.lines.next() {
         gate.before(worker.number, i + 1);
         let mut steps = Steps::new(Kept { shown: 0 });
-        let answer = task.answer(&mut worker.pass, trace.line(i), &mut steps);
+        let answer = task.answer(store, &mut worker.pass, trace.line(i), &mut steps);
         let Ok(()) = worker.answers.push(answer) else {
             unreachable!()
         };
@@ -36,18 +40,21 @@ fn work_through<T: Task, S: Supply, G: Gate>(
 }
 
 /// Each worker works through its lines, in a thread of its own where one can be started.
-pub(crate) fn work_at_once<R: Threads + Sync, T: Task, S: Supply + Send, G: Gate>(
+pub(crate) fn work_at_once<R: Threads + Sync, S: Shared, T: Task, P: Supply + Send, G: Gate>(
     rt: &R,
+    store: &S,
     task: &T,
     trace: &Trace,
-    all_workers: &mut Vec<Worker<T::View, S, T::Answer>>,
+    all_workers: &mut Vec<Worker<S::View, P, T::Answer>>,
     gate: &G,
 )
+    requires fits { T.fits task.now (S.store store.now).about.flags }
     requires lines { length trace.now ≤ 2 ^ 32 }
-    requires fit { All (IsVector (T.store task.now).about) trace.now }
-    requires ready { All (CanWork T.part (T.store task.now) S.giving (length trace.now)) all_workers.old.items }
+    requires fit { All (IsVector (S.store store.now).about) trace.now }
+    requires ready { All (CanWork S.part (S.store store.now) P.giving (length trace.now))
+        all_workers.old.items }
     ensures worked { (j : ℕ) (d : _) → j < length all_workers.old.items
-        → HasWorked T.part (T.store task.now) S.giving T.telling trace.now
+        → HasWorked S.part (S.store store.now) P.giving (T.telling task.now) trace.now
         (slice_index_or all_workers.old.items j d) (slice_index_or all_workers.new.items j d) }
     ensures all { length all_workers.new.items ≡ length all_workers.old.items }
 {
@@ -57,14 +64,15 @@ pub(crate) fn work_at_once<R: Threads + Sync, T: Task, S: Supply + Send, G: Gate
             rt,
             all_workers.as_mut_slice(),
             count,
-            &|_, worker: &mut Worker<T::View, S, T::Answer>|
+            &|_, worker: &mut Worker<S::View, P, T::Answer>|
+                requires fits { T.fits task.now (S.store store.now).about.flags }
                 requires lines { length trace.now ≤ 2 ^ 32 }
-                requires fit { All (IsVector (T.store task.now).about) trace.now }
-                requires ready { CanWork T.part (T.store task.now) S.giving (length trace.now) worker.now }
-                ensures { HasWorked T.part (T.store task.entry.now) S.giving T.telling trace.entry.now
-                    worker.entry.now worker.exit.now }
+                requires fit { All (IsVector (S.store store.now).about) trace.now }
+                requires ready { CanWork S.part (S.store store.now) P.giving (length trace.now) worker.now }
+                ensures { HasWorked S.part (S.store store.entry.now) P.giving (T.telling task.entry.now)
+                    trace.entry.now worker.entry.now worker.exit.now }
             {
-                work_through(task, trace, worker, gate);
+                work_through(store, task, trace, worker, gate);
             },
         );
     }

@@ -5,26 +5,26 @@ ghost use Rattle.pair_rule.specs.View.{parent_view};
 ghost use Rattle.work_run.specs.Workers.{IsSplitWorker, AreSplitWorkers, AreJoined, Unused};
 
 use crate::dealt::Dealing;
+use crate::shared::Shared;
 use crate::worker::Worker;
-use pair_rule::{Pass, RootPart};
+use pair_rule::PassOf;
 use std::alloc::Global;
 use tdb_base::NoMemory;
-use tree_store::TreeStore;
 
 // The worker with this number, which is the next one, with a pass of its own and room for its answers.
-fn split_worker<R: RootPart<W, F>, P: Dealing, A: Copy, const W: u32, const F: u32>(
+fn split_worker<S: Shared, P: Dealing, A: Copy>(
     alloc: Global,
-    store: &TreeStore<R, W, F>,
-    pass: &mut Pass<R, W, F>,
+    store: &S,
+    pass: &mut PassOf<S::View>,
     dealing: &mut P,
     number: u64,
-) -> Result<Worker<R::View, P::Lines, A>, NoMemory>
-    requires rest { AtRest R.part store.now pass.old }
+) -> Result<Worker<S::View, P::Lines, A>, NoMemory>
+    requires rest { AtRest S.part (S.store store.now) pass.old }
     requires next { P.is_next dealing.old number }
     requires inside { number < P.count dealing.old }
-    ensures rest { AtRest R.part store.now pass.new }
-    ensures split { IfOk result
-        (IsSplitWorker R.part store.now P.Lines.giving.left (P.begins dealing.old) (view pass.old) number) }
+    ensures rest { AtRest S.part (S.store store.now) pass.new }
+    ensures split { IfOk result (IsSplitWorker S.part (S.store store.now)
+        P.Lines.giving.left (P.begins dealing.old) (view pass.old) number) }
     ensures view { OnOk result (view pass.new ≡ parent_view (view pass.old)) }
     ensures pass { OnOk result (pass.new ≡ record pass.old { seat = pass.new.seat }) }
     ensures refused { OnErr result (pass.new ≡ pass.old) }
@@ -41,22 +41,22 @@ fn split_worker<R: RootPart<W, F>, P: Dealing, A: Copy, const W: u32, const F: u
 
 /// So many workers, each with a pass that is split from this one, the lines that it is dealt, and room for
 /// the answers to them. After `NoMemory` the passes that were split are joined back.
-pub(crate) fn split_workers<R: RootPart<W, F>, P: Dealing, A: Copy, const W: u32, const F: u32>(
+pub(crate) fn split_workers<S: Shared, P: Dealing, A: Copy>(
     alloc: Global,
-    store: &TreeStore<R, W, F>,
-    pass: &mut Pass<R, W, F>,
+    store: &S,
+    pass: &mut PassOf<S::View>,
     dealing: &mut P,
     workers: u64,
-) -> Result<Vec<Worker<R::View, P::Lines, A>>, NoMemory>
-    requires rest { AtRest R.part store.now pass.old }
+) -> Result<Vec<Worker<S::View, P::Lines, A>>, NoMemory>
+    requires rest { AtRest S.part (S.store store.now) pass.old }
     requires first { P.is_next dealing.old 0 }
     requires workers { P.count dealing.old ≡ workers }
     requires few { workers ≤ 64 }
-    ensures split { IfOk result (λ all_workers. AreSplitWorkers R.part store.now
+    ensures split { IfOk result (λ all_workers. AreSplitWorkers S.part (S.store store.now)
         P.Lines.giving.left (P.begins dealing.old) pass.old pass.new all_workers.items) }
     ensures all { IfOk result (λ all_workers. length all_workers.items ≡ workers) }
     ensures refused { OnErr result (Unused pass.old pass.new) }
-    ensures refused_rest { OnErr result (AtRest R.part store.now pass.new) }
+    ensures refused_rest { OnErr result (AtRest S.part (S.store store.now) pass.new) }
 {
     let mut all_workers = Vec::with_capacity(alloc, workers as usize)?;
     for number in 0..workers {
@@ -72,14 +72,14 @@ pub(crate) fn split_workers<R: RootPart<W, F>, P: Dealing, A: Copy, const W: u32
 }
 
 /// The passes of the workers are joined into the pass, and their answers are dropped.
-pub(crate) fn join_workers<R: RootPart<W, F>, S: Drop, A: Copy, const W: u32, const F: u32>(
-    store: &TreeStore<R, W, F>,
-    pass: &mut Pass<R, W, F>,
-    all_workers: Vec<Worker<R::View, S, A>>,
+pub(crate) fn join_workers<S: Shared, P: Drop, A: Copy>(
+    store: &S,
+    pass: &mut PassOf<S::View>,
+    all_workers: Vec<Worker<S::View, P, A>>,
 )
-    requires rest { AtRest R.part store.now pass.old }
-    requires all_workers { All (λ w. AtRest R.part store.now w.pass) all_workers.items }
-    ensures { AreJoined R.part store.now pass.old pass.new (map (λ w. w.pass) all_workers.items) }
+    requires rest { AtRest S.part (S.store store.now) pass.old }
+    requires all_workers { All (λ w. AtRest S.part (S.store store.now) w.pass) all_workers.items }
+    ensures { AreJoined S.part (S.store store.now) pass.old pass.new (map (λ w. w.pass) all_workers.items) }
 {
     let mut left = all_workers;
     while let Some(worker) = left.pop() {

@@ -30,6 +30,7 @@ pub(crate) fn store(
     roots: u32,
 ) -> Result<(Store, StorePass), Fail>
     ensures width { IfOk result (λ made. made.0.about.width ≡ 16) }
+    ensures flags { IfOk result (λ made. made.0.about.flags ≡ 8) }
     ensures rest { IfOk result (λ made. AtRest plain made.0 made.1) }
 {
     let sizes = Sizes {

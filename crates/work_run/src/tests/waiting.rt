@@ -19,13 +19,19 @@ use trace_csv::{Trace, read_trace};
 use tree_shape::Shape;
 use tree_store::{CompactPass, CompactStore, TreeStore};
 
-type Store = CompactStore<28, 7>;
+pub(crate) type Store = CompactStore<28, 7>;
 
-type StorePass = CompactPass<28, 7>;
+pub(crate) type StorePass = CompactPass<28, 7>;
 
 // A store of vectors of so many slots, with regions of 64 cells, and its pass.
-fn store(alloc: Global, slots: usize, nodes: u32, roots: u32) -> Result<(Store, StorePass), Fail>
+pub(crate) fn store(
+    alloc: Global,
+    slots: usize,
+    nodes: u32,
+    roots: u32,
+) -> Result<(Store, StorePass), Fail>
     ensures width { IfOk result (λ made. made.0.about.width ≡ 28) }
+    ensures flags { IfOk result (λ made. made.0.about.flags ≡ 7) }
     ensures rest { IfOk result (λ made. AtRest (compact 28 7) made.0 made.1) }
 {
     let sizes = Sizes {
@@ -39,7 +45,12 @@ fn store(alloc: Global, slots: usize, nodes: u32, roots: u32) -> Result<(Store, 
 }
 
 // The lines that the text writes, which the store can keep.
-fn lines(rt: &impl Abort, alloc: Global, store: &Store, text: &[u8]) -> Result<Trace, Fail>
+pub(crate) fn lines(
+    rt: &impl Abort,
+    alloc: Global,
+    store: &Store,
+    text: &[u8],
+) -> Result<Trace, Fail>
     requires width { store.now.about.width ≡ 28 }
     ensures fit { IfOk result (λ trace. All (IsVector store.now.about) trace) }
 {

@@ -13,14 +13,9 @@ place-requires-clause-answered g c =
     own_answered c.args.lines c.args.block c.args.all_workers.items c.tell_workers-rest.result.1.workers.items c.deref.result.now (λ w. w.answers.items)
     (ap (map (λ w. w.answers.items)) c.deref.ensures.value ∙ told.answers) c.requires.answered told.own
 
-pub join_workers-requires : goal.join_workers-requires
-join_workers-requires g c = (
-  omega arith,
-  (
-    c.requires.rest,
-    all_alike (λ (p : PassOf g.row.R-View.Denot). AtRest g.R.RootPart.part c.args.store.now p) (λ w. w.pass) (λ w. w.pass) c.tell_workers-rest.result.0.items c.args.all_workers.items c.tell_workers-rest.ensures.passes c.requires.rests,
-  ),
-)
+pub join_workers-requires-clause-all_workers : goal.join_workers-requires-clause-all_workers
+join_workers-requires-clause-all_workers g c κs within =
+    all_alike (λ (p : PassOf g.row.S-View.Denot). AtRest g.S.Shared.part (g.S.Shared.store c.args.store.now) p) (λ w. w.pass) (λ w. w.pass) c.tell_workers-rest.result.0.items c.args.all_workers.items c.tell_workers-rest.ensures.passes c.requires.rests
 
 pub returns-clause-placed : goal.returns-clause-placed
 returns-clause-placed g c =

@@ -12,38 +12,38 @@ use Rattle.work_run.proofs.Joins.{joining_none, joining_more}
 use Rattle.work_run.proofs.workers.join_workers.Goals as goal
 
 pub loop-worker-init : goal.loop-worker-init
-loop-worker-init g c = joining_none g.R.RootPart.part _ _ _ c.requires.rest c.requires.all_workers
+loop-worker-init g c = joining_none g.S.Shared.part _ _ _ c.requires.rest c.requires.all_workers
 
 pub join-requires : goal.join-requires
 join-requires g c =
-    let t = c.args.store.now in
+    let t = (g.S.Shared.store c.args.store.now) in
     let inv = c.loop-worker.invariant in
-    let P = λ (p : PassOf g.row.R-View.Denot). AtRest g.R.RootPart.part t p in
-    let left = All-pop (λ (w : Worker g.row.R-View.Denot g.row.S.Denot g.row.A.Denot). P w.pass) c.loop-worker.left.items c.pop.new.self.items (Some c.in-Some.worker) c.in-Some.ensures.items inv.stay in
-    (omega arith, (inv.joined.rest, subst P (sym c.into_pass.ensures) left.1))
+    let P = λ (p : PassOf g.row.S-View.Denot). AtRest g.S.Shared.part t p in
+    let left = All-pop (λ (w : Worker g.row.S-View.Denot g.row.P.Denot g.row.A.Denot). P w.pass) c.loop-worker.left.items c.pop.new.self.items (Some c.in-Some.worker) c.in-Some.ensures.items inv.stay in
+    record { pass = inv.joined.rest; other = subst P (sym c.into_pass.ensures) left.1 }
 
 pub loop-worker-preserved : goal.loop-worker-preserved
 loop-worker-preserved g c =
-    let part = g.R.RootPart.part in
-    let t = c.args.store.now in
+    let part = g.S.Shared.part in
+    let t = (g.S.Shared.store c.args.store.now) in
     let e = c.join.ensures in
     let old = c.loop-worker.pass in
     let new = c.join.new.pass in
-    let nodes = ap (λ (p : PassOf g.row.R-View.Denot). p.nodes_count) e.others in
-    let names = ap (λ (p : PassOf g.row.R-View.Denot). p.names_count) e.others in
+    let nodes = ap (λ (p : PassOf g.row.S-View.Denot). p.nodes_count) e.others in
+    let names = ap (λ (p : PassOf g.row.S-View.Denot). p.names_count) e.others in
     joining_more part t c.args.pass.now old new c.args.all_workers.items c.loop-worker.left.items c.pop.new.self.items c.in-Some.worker c.loop-worker.invariant c.in-Some.ensures.items
     e.rest
-    (e.view_is ∙ ap (λ (p : PassOf g.row.R-View.Denot). joined_view part.join (view old) (view p)) c.into_pass.ensures)
+    (e.view_is ∙ ap (λ (p : PassOf g.row.S-View.Denot). joined_view part.join (view old) (view p)) c.into_pass.ensures)
     e.taken.0
-    (subst (λ (p : PassOf g.row.R-View.Denot). HasTaken part (view p) (view new)) c.into_pass.ensures e.taken.1)
+    (subst (λ (p : PassOf g.row.S-View.Denot). HasTaken part (view p) (view new)) c.into_pass.ensures e.taken.1)
     (e.others ∙ (λ i. record old { seat = new.seat; nodes_count = sym nodes i; names_count = sym names i }))
 
 pub returns : goal.returns
 returns g c =
-    let t = c.args.store.now in
+    let t = (g.S.Shared.store c.args.store.now) in
     let inv = c.loop-worker.invariant in
     let none : c.loop-worker.left.items ≡ [] = nil_from_length c.loop-worker.left.items (omega (arith, c.loop-worker.left.ok, c.in_default.ensures.cases.0)) in
-    let all : inv.done ≡ c.args.all_workers.items = sym (inv.whole ∙ ap (λ (x : List (Worker g.row.R-View.Denot g.row.S.Denot g.row.A.Denot)). x ++ inv.done) none) in
+    let all : inv.done ≡ c.args.all_workers.items = sym (inv.whole ∙ ap (λ (x : List (Worker g.row.S-View.Denot g.row.P.Denot g.row.A.Denot)). x ++ inv.done) none) in
     subst
-    (λ (x : List (Worker g.row.R-View.Denot g.row.S.Denot g.row.A.Denot)). AreJoined g.R.RootPart.part t c.args.pass.now c.loop-worker.pass (map (λ (w : Worker g.row.R-View.Denot g.row.S.Denot g.row.A.Denot). w.pass) x))
+    (λ (x : List (Worker g.row.S-View.Denot g.row.P.Denot g.row.A.Denot)). AreJoined g.S.Shared.part t c.args.pass.now c.loop-worker.pass (map (λ (w : Worker g.row.S-View.Denot g.row.P.Denot g.row.A.Denot). w.pass) x))
     all inv.joined

@@ -8,8 +8,8 @@ use Rattle.work_run.proofs.workers.split_workers.Goals as goal
 
 pub loop-number-preserved : goal.loop-number-preserved
 loop-number-preserved g c =
-    let part = g.R.RootPart.part in
-    let t = c.args.store.now in
+    let part = g.S.Shared.part in
+    let t = (g.S.Shared.store c.args.store.now) in
     let left = g.P.Lines.Supply.giving.left in
     let begins = g.P.Dealing.begins c.args.dealing.now in
     let inv = c.loop-number.invariant in
@@ -31,8 +31,8 @@ loop-number-preserved g c =
     let here = subst (λ (n : ℕ). IsSplitWorker part t left begins (view old) n worker) (sym inv.so_many) one in
     let more = split_more part t left begins c.args.pass.now old c.split_worker.new.pass all_workers worker inv.split e.rest e.view e.pass here in
     record {
-      split = subst (λ (x : List (Worker g.row.R-View.Denot g.row.P-Lines.Denot g.row.A.Denot)). AreSplitWorkers part t left begins c.args.pass.now c.split_worker.new.pass x) (sym c.in-Ok-push.ensures.items) more;
-      so_many = ap (λ (x : List (Worker g.row.R-View.Denot g.row.P-Lines.Denot g.row.A.Denot)). length x) c.in-Ok-push.ensures.items ∙ omega (arith, length-append all_workers (worker ∷ []), inv.so_many);
+      split = subst (λ (x : List (Worker g.row.S-View.Denot g.row.P-Lines.Denot g.row.A.Denot)). AreSplitWorkers part t left begins c.args.pass.now c.split_worker.new.pass x) (sym c.in-Ok-push.ensures.items) more;
+      so_many = ap (λ (x : List (Worker g.row.S-View.Denot g.row.P-Lines.Denot g.row.A.Denot)). length x) c.in-Ok-push.ensures.items ∙ omega (arith, length-append all_workers (worker ∷ []), inv.so_many);
       room = omega (arith, c.in-Ok-push.ensures.capacity, inv.room);
       next = e.next;
       count = e.count ∙ inv.count;
@@ -41,10 +41,10 @@ loop-number-preserved g c =
 
 pub returns-in_default-clause-refused : goal.returns-in_default-clause-refused
 returns-in_default-clause-refused g c =
-    let part = g.R.RootPart.part in
-    let t = c.args.store.now in
+    let part = g.S.Shared.part in
+    let t = (g.S.Shared.store c.args.store.now) in
     let all_workers = c.loop-number.all_workers.items in
     let new = c.join_workers.new.pass in
-    let from = λ (p : PassOf g.row.R-View.Denot). AreJoined part t p new (map (λ (w : Worker g.row.R-View.Denot g.row.P-Lines.Denot g.row.A.Denot). w.pass) all_workers) in
+    let from = λ (p : PassOf g.row.S-View.Denot). AreJoined part t p new (map (λ (w : Worker g.row.S-View.Denot g.row.P-Lines.Denot g.row.A.Denot). w.pass) all_workers) in
     unused part t g.P.Lines.Supply.giving.left (g.P.Dealing.begins c.args.dealing.now) c.args.pass.now c.loop-number.pass new all_workers c.loop-number.invariant.split
     (subst from c.in_default.ensures.refused c.join_workers.ensures)

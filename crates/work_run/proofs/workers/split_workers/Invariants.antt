@@ -4,7 +4,7 @@ use Rattle.work_run.proofs.workers.split_workers.Given as goal
 
 abbrev pub invariant-loop-number : goal.invariant-loop-number
 invariant-loop-number g l = record {
-  split : AreSplitWorkers g.R.RootPart.part l.store g.P.Lines.Supply.giving.left (g.P.Dealing.begins l.fn.dealing) l.fn.pass l.pass l.all_workers.items;
+  split : AreSplitWorkers g.S.Shared.part (g.S.Shared.store l.store) g.P.Lines.Supply.giving.left (g.P.Dealing.begins l.fn.dealing) l.fn.pass l.pass l.all_workers.items;
   so_many : length l.all_workers.items ≡ l.number;
   room : l.workers ≤ vec_capacity l.all_workers;
   next : g.P.Dealing.is_next l.dealing l.number;
