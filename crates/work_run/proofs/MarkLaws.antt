@@ -7,7 +7,7 @@ use Rattle.pair_nodes.specs.Roots.{deed}
 use Rattle.tdb_base.specs.Agrees.{Agrees, entries_of_insertion, entry_of, entry_of_both}
 use Rattle.tdb_base.specs.History.{Vector, Put, Set, Entry, History, calls, is_fresh, name_of, same}
 use Rattle.tdb_base.specs.Legal.{IsLegal}
-use Rattle.tdb_base.specs.Lines.{distinct, mine, named}
+use Rattle.tdb_base.specs.Lines.{dealt_to, distinct, mine, named}
 use Rattle.tdb_base.specs.Replies.{is_full}
 use Rattle.tdb_base.specs.declared.reply.Reply.{Reply}
 use Rattle.tdb_base.specs.declared.reply.Reply.TheVariants as r
@@ -15,7 +15,7 @@ use Rattle.tdb_base.proofs.DistinctLemmas.{at-map, count-cons, count-named, coun
 use Rattle.tdb_base.proofs.ListLemmas.{At, at-contained, at-filter, at-filter_map, at-flat_map, cut-at, filter-at}
 use Rattle.tdb_base.proofs.NameLemmas.{entry-named, gives-once, name-source, same-equal, same-refl}
 use Rattle.tdb_base.proofs.SumLemmas.{sum-by-classes, sum-ones, sum-same}
-use Rattle.tdb_base.proofs.TallyLemmas.{contained-at, line_weight, tally}
+use Rattle.tdb_base.proofs.TallyLemmas.{dealt-shared, contained-at, line_weight, tally}
 use Rattle.tree_store.specs.Store.{naming}
 use Rattle.work_run.specs.Marks.{AgreesMarked, CountsMarks, EachMarkedOnce, MarksAreCounted, entries_of_mark, is_first}
 use Rattle.work_run.specs.Telling.{then_set}
@@ -255,7 +255,7 @@ module _ (count : ℕ) (trace : List Vector) (replies : List Reply) (firsts : Li
     -- whatever the marks weigh, the lines weigh as much
     weigh : (w : Vector → Bool → ℕ) → ((v : Vector) → w v false ≡ 0) → sum_by (λ line. w line.0 line.1) (zip trace firsts) ≡ sum_by (λ e. w e.vector (is_fresh e.act)) (marks_in h)
     weigh w none = sym (lines-weigh w none trace replies firsts agrees.over.among.one_each agrees.marks.one_each agrees.marks.full)
-        ∙ sym (tally count trace (remarks replies firsts) workers block (marks_in h) callers w marks-agree some)
+        ∙ sym (tally count (dealt_to workers block) trace (remarks replies firsts) workers (marks_in h) callers w marks-agree (dealt-shared (length trace) workers block some))
 
     pub counts-marks : CountsMarks firsts h
     counts-marks = sym (count-marks trace firsts (agrees.marks.one_each ∙ agrees.over.among.one_each))
