@@ -15,9 +15,12 @@ use Rattle.tdb_base.proofs.DistinctLemmas.{at-map, count-cons, count-named, coun
 use Rattle.tdb_base.proofs.ListLemmas.{At, at-contained, at-filter, at-filter_map, at-flat_map, cut-at, filter-at}
 use Rattle.tdb_base.proofs.NameLemmas.{entry-named, gives-once, name-source, same-equal, same-refl}
 use Rattle.tdb_base.proofs.SumLemmas.{sum-by-classes, sum-ones, sum-same}
+use Rattle.tdb_base.specs.Renamed.{renamed}
+use Rattle.tdb_base.proofs.HeadlineLemmas.{counts-names}
+use Rattle.tdb_base.proofs.RenameLemmas.{RenamesAlike, agrees-numbered}
 use Rattle.tdb_base.proofs.TallyLemmas.{dealt-shared, contained-at, line_weight, tally}
 use Rattle.tree_store.specs.Store.{naming}
-use Rattle.work_run.specs.Marks.{AgreesMarked, CountsMarks, EachMarkedOnce, MarksAreCounted, entries_of_mark, is_first}
+use Rattle.work_run.specs.Marks.{AgreesMarked, CountsMarks, EachMarkedOnce, MarkersMayBeRenumbered, AsManyFirstAsNew, MarksAreCounted, entries_of_mark, is_first}
 use Rattle.work_run.specs.Telling.{then_set}
 use Rattle.work_run.proofs.MarkParts.{Kept, IsOfMarks, flat_map-at, kept-agrees, kept-all, mark-caller, mark_of, marks_in, put-caller, put_of, puts_in}
 
@@ -251,6 +254,11 @@ module _ (count : ℕ) (trace : List Vector) (replies : List Reply) (firsts : Li
       (λ v at. let n = fresh-named count (marks_in h) kept.marks_legal v at in named-fresh h v n.0 (kept.marks_names v n.0 n.1))
       (λ v at. let n = fresh-named count h kept.legal v at in let m = named-marked v n.0 n.1 in named-fresh (marks_in h) v m.0 m.1)
 
+  as-many-put : length (named (puts_in h)) ≡ length (named h)
+  as-many-put = same-distinct (fresh_vectors (puts_in h)) (fresh_vectors h)
+      (λ v at. let n = fresh-named count (puts_in h) kept.puts_legal v at in named-fresh h v n.0 (sym (kept.puts_names v) ∙ n.1))
+      (λ v at. let n = fresh-named count h kept.legal v at in named-fresh (puts_in h) v n.0 (kept.puts_names v ∙ n.1))
+
   module _ (some : 0 < workers) where
     -- whatever the marks weigh, the lines weigh as much
     weigh : (w : Vector → Bool → ℕ) → ((v : Vector) → w v false ≡ 0) → sum_by (λ line. w line.0 line.1) (zip trace firsts) ≡ sum_by (λ e. w e.vector (is_fresh e.act)) (marks_in h)
@@ -266,8 +274,31 @@ module _ (count : ℕ) (trace : List Vector) (replies : List Reply) (firsts : Li
         let m = named-marked v id n in
         weigh (λ u fresh. cond (fresh && same u v) 1 0) (λ u. refl) ∙ (gives-once count v (marks_in h) kept.marks_legal ∙ rw m.1 refl)
 
+    pub as-many-new : AsManyFirstAsNew replies firsts
+    as-many-new = counts-marks ∙ (sym as-many-put ∙ sym (counts-names count (dealt_to workers block) trace replies workers (puts_in h) callers puts-agree (dealt-shared (length trace) workers block some)))
+
 pub marks-are-counted : MarksAreCounted
-marks-are-counted count trace replies firsts workers block flag h callers some agrees = (
-  counts-marks count trace replies firsts workers block flag h callers agrees some,
-  each-marked-once count trace replies firsts workers block flag h callers agrees some,
-)
+marks-are-counted count trace replies firsts workers block flag h callers some agrees = record {
+  names = counts-marks count trace replies firsts workers block flag h callers agrees some;
+  once = each-marked-once count trace replies firsts workers block flag h callers agrees some;
+  new = as-many-new count trace replies firsts workers block flag h callers agrees some;
+}
+
+-- what a line's calls are, made by another caller
+marked-alike : (flag : ℕ) (trace : List Vector) (replies : List Reply) (firsts : List Bool) → RenamesAlike (entries_of_mark flag trace replies firsts)
+marked-alike flag trace replies firsts f c i = by (slice_get trace i) (slice_get replies i) (is_first firsts i)
+  where
+    by : (v : Option Vector) (o : Option Reply) (first : Bool)
+        → renamed f (flat_map (then_set flag first) (option_to_list (entry_of_both c v o))) ≡ flat_map (then_set flag first) (option_to_list (entry_of_both (f c) v o))
+    by (Some v) (Some (r.New id)) first = refl
+    by (Some v) (Some (r.Seen id)) first = refl
+    by (Some v) (Some r.FullNodes) first = refl
+    by (Some v) (Some r.FullRoots) first = refl
+    by (Some v) None first = refl
+    by None o first = refl
+
+pub markers-renumbered : MarkersMayBeRenumbered
+markers-renumbered count trace replies firsts workers block flag h callers agrees = record {
+  over = agrees-numbered (marked-alike flag trace replies firsts) agrees.over;
+  marks = agrees.marks;
+}

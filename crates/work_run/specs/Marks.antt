@@ -1,11 +1,12 @@
 -- When the replies and the marks of a trace's lines form one history, and what a run of marks leaves.
 use Rattle.std.specs.Prelude.{◌≡◌, ◌&&◌, ◌<◌, ℕ, true, false, List, [], Bool, Some, flat_map, length}
 use Rattle.std.specs.Prelude.{count_by, slice_get, slice_index_or}
-use Rattle.std.specs.List.{zip}
+use Rattle.std.specs.List.{range_with_len, zip}
 use Rattle.tdb_base.specs.Agrees.{AgreesOver, entries_of_insertion}
 use Rattle.tdb_base.specs.History.{Vector, History, name_of, same}
 use Rattle.tdb_base.specs.Lines.{mine, named}
-use Rattle.tdb_base.specs.Replies.{is_full}
+use Rattle.tdb_base.specs.Renamed.{position_of, renamed}
+use Rattle.tdb_base.specs.Replies.{is_full, is_new}
 use Rattle.tdb_base.specs.declared.reply.Reply.{Reply}
 use Rattle.pair_rule.specs.declared.sizes.About.{About}
 use Rattle.pair_rule.specs.declared.pass.PassOf.{PassOf}
@@ -53,11 +54,30 @@ abbrev pub EachMarkedOnce : List Vector → List Bool → History → Type 0
 EachMarkedOnce trace firsts h = (v : Vector) (id : ℕ) → name_of h v ≡ Some id
     → count_by (λ line. line.1 && same line.0 v) (zip trace firsts) ≡ 1
 
--- where a history begins with the run, the marks are as many as the names, and each vector that has a name is
--- marked first once
+-- as many lines are marked first as are answered new
+abbrev pub AsManyFirstAsNew : List Reply → List Bool → Type 0
+AsManyFirstAsNew replies firsts = count_by (λ first. first) firsts ≡ count_by is_new replies
+
+-- what the marks of a run tell
+pub record MarksTell (trace : List Vector) (replies : List Reply) (firsts : List Bool) (h : History)
+    : Type 0 where
+  pub names : CountsMarks firsts h
+  pub once : EachMarkedOnce trace firsts h
+  pub new : AsManyFirstAsNew replies firsts
+
+-- where a history begins with the run
 abbrev pub MarksAreCounted : Type 0
 MarksAreCounted =
     (flag_count : ℕ) (trace : List Vector) (replies : List Reply) (firsts : List Bool)
     (workers block flag : ℕ) (h : History) (callers : List ℕ) → 0 < workers
     → AgreesMarked flag_count trace replies firsts workers block flag [] h callers
-    → CountsMarks firsts h × EachMarkedOnce trace firsts h
+    → MarksTell trace replies firsts h
+
+-- and its callers may be told under the numbers of the workers
+abbrev pub MarkersMayBeRenumbered : Type 0
+MarkersMayBeRenumbered =
+    (flag_count : ℕ) (trace : List Vector) (replies : List Reply) (firsts : List Bool)
+    (workers block flag : ℕ) (h : History) (callers : List ℕ)
+    → AgreesMarked flag_count trace replies firsts workers block flag [] h callers
+    → AgreesMarked flag_count trace replies firsts workers block flag [] (renamed (position_of callers) h)
+    (range_with_len 0 workers)

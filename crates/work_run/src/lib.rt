@@ -23,7 +23,7 @@ mod workers;
 
 pub use drawn_run::{run_drawn, run_drawn_waiting};
 pub use lines::{line_of, lines_are_dealt_out};
-pub use mark::{mark_lines, mark_lines_waiting, marks_are_counted};
+pub use mark::{mark_lines, mark_lines_waiting, markers_may_be_renumbered, marks_are_counted};
 pub use run::{puts_are_few, run_lines, run_lines_waiting};
 pub use worker::Worker;
 

@@ -5,7 +5,7 @@ ghost use Rattle.pair_rule.specs.Rest.{AtRest};
 ghost use Rattle.region_root.specs.Compact.{compact};
 ghost use Rattle.root_plain.specs.Plain.{plain};
 ghost use Rattle.tree_store.specs.Vectors.{IsVector};
-ghost use Rattle.work_run.specs.Marks.{HasRunMarked, MarksAreCounted};
+ghost use Rattle.work_run.specs.Marks.{HasRunMarked, MarkersMayBeRenumbered, MarksAreCounted};
 ghost use Rattle.work_run.specs.Workers.{Unused};
 
 use crate::run::run_task;
@@ -73,9 +73,9 @@ fn mark_all<R: Threads + Sync, S: Shared, G: Gate>(
 /// line.
 ///
 /// The flag is below `F`. Setting it is a call of its own on the identifier that the line was answered. A
-/// line that is answered full is not marked, and its mark is false. A line may be new and find its flag set, since
-/// another worker may have set it in between. The steps that the gate gets are those of the insertion. All
-/// memory is taken before the first line is inserted: after `NoMemory` none was, and the pass has what it
+/// line that is answered full is not marked, and its mark is false. A line may be new and find its flag set,
+/// since another worker may have set it in between. The steps that the gate gets are those of the insertion.
+/// All memory is taken before the first line is inserted: after `NoMemory` none was, and the pass has what it
 /// had. It waits for nobody.
 pub fn mark_lines<R: Threads + Sync, G: Gate, const W: u32, const F: u32>(
     rt: &R,
@@ -131,8 +131,13 @@ pub fn mark_lines_waiting<R: Threads + Wait + Sync, G: Gate, const W: u32, const
     mark_all(rt, alloc, &shared, pass, trace, workers, block, flag, gate)
 }
 
-/// Where nobody called before the run, as many lines are marked first as there are names, and each vector
-/// that has a name is marked first once.
+/// Where nobody called before the run, as many lines are marked first as there are names, which are as many
+/// as are answered new, and each vector that has a name is marked first once.
 pub fn marks_are_counted()
     ensures { MarksAreCounted }
+{}
+
+/// Such a run's callers may be told under the numbers of the workers, from 0.
+pub fn markers_may_be_renumbered()
+    ensures { MarkersMayBeRenumbered }
 {}
