@@ -10,6 +10,7 @@ pub mod OutputLemmas
 pub mod PageLemmas
 pub mod PiecesLemmas
 pub mod ReportLemmas
+pub mod MarkLemmas
 pub mod RowLemmas
 pub mod SortLemmas
 pub mod SortedLemmas

@@ -22,7 +22,7 @@ use Rattle.pair_rule.specs.declared.pass.PassOf.{PassOf}
 use Rattle.pair_rule.specs.Part.{Part, Store, root_pairs}
 use Rattle.pair_rule.specs.Rest.{AtRest, HasAll, Housed, Whole, names_of_callers, view}
 use Rattle.work_run.specs.Full.{AreOfVectors, IsOfOne}
-use Rattle.work_run.specs.Owned.{dealt_to}
+use Rattle.tdb_base.specs.Lines.{dealt_to}
 use Rattle.work_run.proofs.Few.{few_puts}
 use Rattle.trace_csv.specs.declared.report.Stats.{Stats}
 use Rattle.command_line.specs.declared.outcome.Choice.{Choice}

@@ -10,7 +10,7 @@ use Rattle.pair_rule.specs.Part.{Store, Part}
 use Rattle.pair_nodes.specs.Roots.{Refusals}
 use Rattle.work_run.specs.declared.worker.Worker.{Worker}
 use Rattle.work_run.specs.Dealing.{IsDealt}
-use Rattle.work_run.specs.Owned.{owned, dealt_to}
+use Rattle.tdb_base.specs.Lines.{owned, dealt_to}
 use Rattle.work_run.specs.Ran.{HasRunTask}
 use Rattle.work_run.specs.Telling.{Telling}
 use Rattle.work_run.specs.ToCome.{dealt_lines}

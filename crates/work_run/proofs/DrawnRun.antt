@@ -17,7 +17,7 @@ use Rattle.block_claims.specs.Drawers.{Pool}
 use Rattle.work_run.specs.declared.worker.Worker.{Worker}
 use Rattle.work_run.specs.BlockLines.{LinesDrawn, IsFreshLines, blocks_of, drawn_blocks, lines_of_blocks}
 use Rattle.work_run.specs.Drew.{AnswerTheirLines, ArePlaced, HasDrawnFrom, HasRunDrawn, HasRunDrawnTask}
-use Rattle.work_run.specs.Owned.{owned}
+use Rattle.tdb_base.specs.Lines.{owned}
 use Rattle.work_run.specs.Ran.{HasRunTold}
 use Rattle.work_run.specs.Telling.{Telling, insertion}
 use Rattle.work_run.specs.Work.{CanWork, HasTakenLines, HasWorked}

@@ -15,7 +15,7 @@ use Rattle.tdb_base.proofs.SumLemmas.{sum-by-classes, sum-ones, sum-same, count-
 use Rattle.pair_rule.specs.declared.sizes.About.{About}
 use Rattle.tree_store.specs.Vectors.{puts_after}
 use Rattle.work_run.specs.Inserted.{last_after, puts_of}
-use Rattle.work_run.specs.Owned.{owned}
+use Rattle.tdb_base.specs.Lines.{owned}
 use Rattle.work_run.specs.Ran.{FewPuts, puts_of_worker}
 use Rattle.work_run.proofs.Owned.{owned_below}
 

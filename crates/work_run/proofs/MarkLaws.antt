@@ -7,7 +7,7 @@ use Rattle.pair_nodes.specs.Roots.{deed}
 use Rattle.tdb_base.specs.Agrees.{Agrees, entries_of_insertion, entry_of, entry_of_both}
 use Rattle.tdb_base.specs.History.{Vector, Put, Set, Entry, History, calls, is_fresh, name_of, same}
 use Rattle.tdb_base.specs.Legal.{IsLegal}
-use Rattle.tdb_base.specs.Lines.{distinct, mine, named}
+use Rattle.tdb_base.specs.Lines.{dealt_to, distinct, mine, named}
 use Rattle.tdb_base.specs.Replies.{is_full}
 use Rattle.tdb_base.specs.declared.reply.Reply.{Reply}
 use Rattle.tdb_base.specs.declared.reply.Reply.TheVariants as r
@@ -18,7 +18,7 @@ use Rattle.tdb_base.proofs.SumLemmas.{sum-by-classes, sum-ones, sum-same}
 use Rattle.tdb_base.specs.Renamed.{renamed}
 use Rattle.tdb_base.proofs.HeadlineLemmas.{counts-names}
 use Rattle.tdb_base.proofs.RenameLemmas.{RenamesAlike, agrees-numbered}
-use Rattle.tdb_base.proofs.TallyLemmas.{contained-at, line_weight, tally}
+use Rattle.tdb_base.proofs.TallyLemmas.{dealt-shared, contained-at, line_weight, tally}
 use Rattle.tree_store.specs.Store.{naming}
 use Rattle.work_run.specs.Marks.{AgreesMarked, CountsMarks, EachMarkedOnce, MarkersMayBeRenumbered, AsManyFirstAsNew, MarksAreCounted, entries_of_mark, is_first}
 use Rattle.work_run.specs.Telling.{then_set}
@@ -263,7 +263,7 @@ module _ (count : ℕ) (trace : List Vector) (replies : List Reply) (firsts : Li
     -- whatever the marks weigh, the lines weigh as much
     weigh : (w : Vector → Bool → ℕ) → ((v : Vector) → w v false ≡ 0) → sum_by (λ line. w line.0 line.1) (zip trace firsts) ≡ sum_by (λ e. w e.vector (is_fresh e.act)) (marks_in h)
     weigh w none = sym (lines-weigh w none trace replies firsts agrees.over.among.one_each agrees.marks.one_each agrees.marks.full)
-        ∙ sym (tally count trace (remarks replies firsts) workers block (marks_in h) callers w marks-agree some)
+        ∙ sym (tally count (dealt_to workers block) trace (remarks replies firsts) workers (marks_in h) callers w marks-agree (dealt-shared (length trace) workers block some))
 
     pub counts-marks : CountsMarks firsts h
     counts-marks = sym (count-marks trace firsts (agrees.marks.one_each ∙ agrees.over.among.one_each))
@@ -275,7 +275,7 @@ module _ (count : ℕ) (trace : List Vector) (replies : List Reply) (firsts : Li
         weigh (λ u fresh. cond (fresh && same u v) 1 0) (λ u. refl) ∙ (gives-once count v (marks_in h) kept.marks_legal ∙ rw m.1 refl)
 
     pub as-many-new : AsManyFirstAsNew replies firsts
-    as-many-new = counts-marks ∙ (sym as-many-put ∙ sym (counts-names count trace replies workers block (puts_in h) callers puts-agree some))
+    as-many-new = counts-marks ∙ (sym as-many-put ∙ sym (counts-names count (dealt_to workers block) trace replies workers (puts_in h) callers puts-agree (dealt-shared (length trace) workers block some)))
 
 pub marks-are-counted : MarksAreCounted
 marks-are-counted count trace replies firsts workers block flag h callers some agrees = record {

@@ -85,6 +85,7 @@ module _ {T : Type 0} (part : Part T) (refusals : Refusals part) (store : Store)
             (a.made i (subst (λ (x : List ℕ). Has i x) k.made h));
         last = last_is acted.buffers k.about ∙ a.last;
         probes = (let more = k.probes in omega (arith, a.probes, more));
+        few_made = (let more = k.probes in let long = ap (λ (l : List ℕ). length l) k.made in omega (arith, a.few_made, more, long));
       }
     where
       called : (n : ℕ) → (view q).number ≡ n → calls (deed (view q).number (Set flag first) v id ∷ []) n ≡ deed n (Set flag first) v id ∷ []

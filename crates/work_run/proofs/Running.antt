@@ -34,7 +34,7 @@ use Rattle.work_run.specs.Workers.{after_splits, after_joins, IsSplitWorker, Are
 use Rattle.work_run.specs.Full.{IsOfOne, is_full_inside, full_inside}
 use Rattle.work_run.specs.Giving.{Giving}
 use Rattle.work_run.specs.Inserted.{puts_of, Inserted}
-use Rattle.work_run.specs.Owned.{owned}
+use Rattle.tdb_base.specs.Lines.{owned}
 use Rattle.work_run.specs.Telling.{Telling, told_entries, entries_at}
 use Rattle.work_run.specs.Work.{CanWork, HasTakenLines}
 use Rattle.work_run.specs.Ran.{HasRunTold, KeepsPass, OneHistoryOver, FullAreBarred, NewNodesAreOfLines, puts_of_worker, puts_of_all}

@@ -11,7 +11,7 @@ use Rattle.pair_rule.specs.Part.{Part}
 use Rattle.block_claims.specs.Drawers.{Pool, Drawing, IsNew}
 use Rattle.work_run.specs.declared.worker.Worker.{Worker}
 use Rattle.work_run.specs.BlockLines.{LinesDrawn, HasDrawnAll, block_count, blocks_of, lines_of_blocks}
-use Rattle.work_run.specs.Owned.{owned}
+use Rattle.tdb_base.specs.Lines.{owned}
 use Rattle.work_run.specs.Ran.{HasRunOver, HasRunTold}
 use Rattle.work_run.specs.Telling.{Telling}
 

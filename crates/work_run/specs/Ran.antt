@@ -17,7 +17,7 @@ use Rattle.pair_rule.specs.Part.{Part, root_pairs}
 use Rattle.work_run.specs.Enough.{IsOfNewStore, HasNodesFor, NeverAnswered}
 use Rattle.work_run.specs.Full.{Barred, IsOfOne}
 use Rattle.work_run.specs.Inserted.{puts_of}
-use Rattle.work_run.specs.Owned.{owned}
+use Rattle.tdb_base.specs.Lines.{owned}
 use Rattle.work_run.specs.Telling.{Telling, entries_at}
 
 -- Which lines each worker had, and which entries a line has, are what ways of running differ in.
