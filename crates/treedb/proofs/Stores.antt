@@ -2,7 +2,6 @@
 use Rattle.std.proofs.Common.{◌≡◌, ℕ, suc, ◌+◌, ◌*◌, ◌-◌, ◌/◌, ◌<◌, ◌≤◌, List, [], ◌∷◌, length, Bool, true, false, Option, Some, None, refl, sym, ap, ◌∙◌, subst, ⊎_elim, arith}
 use Rattle.std.specs.Prelude.{All, IfSome, slice_get, count_by}
 use Rattle.std.specs.List.{list_any, range_with_len}
-use Rattle.std.proofs.lemmas.Nat.{mod_below}
 use Rattle.tree_shape.specs.Tree.{Has}
 use Rattle.tdb_base.specs.Agrees.{Agrees}
 use Rattle.tdb_base.specs.History.{Vector, History, name_of}
@@ -15,6 +14,7 @@ use Rattle.tdb_base.proofs.ListLemmas.{at-within}
 use Rattle.tdb_base.proofs.RenameLemmas.{agrees_renamed, legal-renamed, name-renamed}
 use Rattle.std.proofs.lemmas.Option.{slice_get_within}
 use Rattle.tdb_base.proofs.DistinctLemmas.{count-named}
+use Rattle.tdb_base.proofs.TallyLemmas.{dealt-shared}
 use Rattle.tree_store.proofs.Census.{names_all}
 use Rattle.pair_rule.specs.declared.view.View.{View}
 use Rattle.pair_rule.specs.declared.sizes.About.{About}
@@ -22,7 +22,7 @@ use Rattle.pair_rule.specs.declared.pass.PassOf.{PassOf}
 use Rattle.pair_rule.specs.Part.{Part, Store, root_pairs}
 use Rattle.pair_rule.specs.Rest.{AtRest, HasAll, Housed, Whole, names_of_callers, view}
 use Rattle.work_run.specs.Full.{AreOfVectors, IsOfOne}
-use Rattle.tdb_base.specs.Lines.{dealt_to}
+use Rattle.tdb_base.specs.Lines.{AreShared, dealt_to}
 use Rattle.work_run.proofs.Few.{few_puts}
 use Rattle.trace_csv.specs.declared.report.Stats.{Stats}
 use Rattle.command_line.specs.declared.outcome.Choice.{Choice}
@@ -71,6 +71,12 @@ named_by r.FullRoots e = cc e
 
 module _ {T : Type 0} (part : Part T) (c : Choice) (trace : List Vector) (replies : List Reply) (store : Store) (last : PassOf T)
     (some : 0 < c.workers) (inserted : AreInserted part c trace replies store last) (rests : AtRest part store last) where
+  abbrev owner : ℕ → ℕ
+  owner = dealt_to c.workers c.block
+
+  shared : AreShared (length trace) c.workers owner
+  shared = dealt-shared (length trace) c.workers c.block some
+
   abbrev pub history : History
   history = renamed (position_of inserted.ran.one_history.0) (view last).seen
 
@@ -85,7 +91,7 @@ module _ {T : Type 0} (part : Part T) (c : Choice) (trace : List Vector) (replie
       (subst (λ (h : History). Agrees store.about.flags trace replies c.workers c.block h (view last).seen inserted.ran.one_history.0) none_seen (inserted.ran.one_history.1.alone inserted.whole))
 
   pub agrees_run : Agrees (flag_count c.profile) trace replies c.workers c.block [] history (range_with_len 0 c.workers)
-  agrees_run = agrees_renamed (flag_count c.profile) trace replies c.workers c.block (view last).seen inserted.ran.one_history.0 own_agrees
+  agrees_run = agrees_renamed (flag_count c.profile) owner trace replies c.workers (view last).seen inserted.ran.one_history.0 own_agrees
 
   filled_run : AreOfVectors store.about (view last).known trace
   filled_run index pair h = ⊎_elim
@@ -98,13 +104,13 @@ module _ {T : Type 0} (part : Part T) (c : Choice) (trace : List Vector) (replie
   names_are =
       names_all (view last).numbers (view last).seen all.callers
       ∙ (count-named (flag_count c.profile) (view last).seen own_agrees.among.legal
-      ∙ sym (counts-names (flag_count c.profile) trace replies c.workers c.block (view last).seen inserted.ran.one_history.0 own_agrees some))
+      ∙ sym (counts-names (flag_count c.profile) owner trace replies c.workers (view last).seen inserted.ran.one_history.0 own_agrees shared))
 
   few_made : length (view last).made ≤ (store.about.slots - 2) * length trace
   few_made =
       let probed = rests.seat.sound.probed in
       let none : (view inserted.first).probes ≡ 0 = ap (λ (v : View T). v.probes) inserted.begins in
-      let most = few_puts store.about trace replies (dealt_to c.workers c.block) c.workers (λ i lt. mod_below (i / c.block) c.workers some) in
+      let most = few_puts store.about trace replies owner c.workers shared in
       omega (arith, probed, inserted.ran.probes, none, most)
 
   counts_run : (s : Stats) → CountsOf part store.about (view last) s → Counts part store.about (length trace) (view last).known replies s
@@ -124,7 +130,7 @@ module _ {T : Type 0} (part : Part T) (c : Choice) (trace : List Vector) (replie
       let at = has_some_place of.0 trace of.1 in
       let reply = at-within replies at.0 (let same = agrees_run.among.one_each in let lt = slice_get_within trace at.0 of.0 at.1 in omega arith) in
       let id = named_by reply.0 (none-full replies at.0 reply.0 none reply.1) in
-      (of.0, id.0, line-named (flag_count c.profile) trace replies c.workers c.block [] history (range_with_len 0 c.workers) agrees_run.among some at.0 of.0 reply.0 id.0 at.1 reply.1 id.1, of.2)
+      (of.0, id.0, line-named (flag_count c.profile) owner trace replies c.workers [] history (range_with_len 0 c.workers) agrees_run.among shared at.0 of.0 reply.0 id.0 at.1 reply.1 id.1, of.2)
 
   pub in_store_run : (stats : Option Stats) → AreTold c.stats stats (CountsOf part store.about (view last)) → InStore part c trace replies history stats
   in_store_run stats told = record {
@@ -142,8 +148,8 @@ module _ {T : Type 0} (part : Part T) (c : Choice) (trace : List Vector) (replie
 
   -- the identifiers of the replies that are new name vectors, and what is read back by them is the named ones
   pub new_are_named : All (λ reply. IfSome (new_id reply) (λ id. (v : Vector) × (name_of (view last).seen v ≡ Some id))) replies
-  new_are_named = new-named store.about.flags trace replies c.workers c.block (view inserted.first).seen (view last).seen inserted.ran.one_history.0 inserted.ran.one_history.1.among some
+  new_are_named = new-named store.about.flags owner trace replies c.workers (view inserted.first).seen (view last).seen inserted.ran.one_history.0 inserted.ran.one_history.1.among shared
 
   pub read_back_run : (back : ReadBack) → IsReadBy (view last).seen (new_ids replies) back → IsReadBack history back
   read_back_run back by = read-renamed (position_of inserted.ran.one_history.0) (view last).seen back
-      (read-back (flag_count c.profile) trace replies c.workers c.block (view last).seen inserted.ran.one_history.0 own_agrees some back by)
+      (read-back (flag_count c.profile) owner trace replies c.workers (view last).seen inserted.ran.one_history.0 own_agrees shared back by)
