@@ -1,20 +1,31 @@
 -- Root tables that have a place for each line's root.
 use Rattle.std.proofs.Common.{◌≡◌, ◌≢◌, ◌⊎◌, ℕ, zero, suc, ◌+◌, ◌<◌, ◌≤◌, List, [], ◌∷◌, length, Bool, true, false, cond, Some, refl, sym, ap, ◌∙◌, subst, inl, inr, ⊎_elim, arith}
 use Rattle.std.specs.Prelude.{slice_get, count_by}
-use Rattle.std.proofs.lemmas.List.Sums.{sum_by-cons}
+use Rattle.std.proofs.lemmas.List.Sums.{sum_by-cons, count_by-le-length}
+use Rattle.std.proofs.lemmas.Option.{slice_get_within, slice_get-get_or}
 use Rattle.tree_shape.specs.Tree.{Has}
+use Rattle.tdb_base.specs.Agrees.{AgreesOwned, entries_of_insertion}
+use Rattle.tdb_base.specs.Lines.{AreShared, owned}
+use Rattle.tdb_base.specs.Replies.{is_new}
+use Rattle.tdb_base.specs.declared.reply.Reply.{Reply}
+use Rattle.tdb_base.specs.declared.reply.Reply.TheVariants as r
+use Rattle.tdb_base.proofs.DistinctLemmas.{count-named}
+use Rattle.tdb_base.proofs.HeadlineLemmas.{counts-names}
+use Rattle.pair_rule.specs.declared.pass.PassOf.{PassOf}
 use Rattle.tdb_base.specs.History.{Vector, Entry, History, is_fresh, name_of}
 use Rattle.tdb_base.specs.Legal.{IsLegal}
 use Rattle.tdb_base.proofs.NameLemmas.{name-given}
 use Rattle.tdb_base.proofs.ListLemmas.{at-contained}
 use Rattle.pair_rule.specs.Numbers.{NoRepeats}
-use Rattle.pair_rule.specs.Part.{root_pairs}
+use Rattle.pair_rule.specs.Part.{Store, Part, root_pairs}
 use Rattle.pair_rule.specs.Paths.{root_buckets, size, Listed}
-use Rattle.pair_rule.specs.Rest.{view}
+use Rattle.pair_rule.specs.Rest.{AtRest, view}
 use Rattle.region_root.specs.Compact.{compact}
 use Rattle.region_root.specs.Names.{are_names}
 use Rattle.root_plain.specs.Plain.{plain}
-use Rattle.work_run.specs.Enough.{PlainRootsSuffice, CompactRootsSuffice}
+use Rattle.work_run.specs.Enough.{IsOfNewStore, HasRootsFor, NeverAnswered, PlainRootsSuffice, CompactRootsSuffice}
+use Rattle.work_run.specs.Ran.{HasRunOver}
+use Rattle.work_run.proofs.Elements.{placed}
 use Rattle.work_run.proofs.Filled.{all_are_filled, has_all_below, no_longer}
 
 -- the identifiers of a history's names, one for each entry that gives one
@@ -68,3 +79,30 @@ compact_roots_suffice width flags store lines enough p pair rest few full =
     (λ x has. (let e = (full.are_roots.each x has).1 in let o = names.only e.0 x e.1 in named_id (view p).about.flags h o.1.0 x legal (o.1.1 ∙ ap Some (sym o.0)))) in
     let long = ids_long h in
     omega (arith, all, long, few, enough, full.all)
+
+-- where some reply is full, fewer are new than there are
+fewer_new : (replies : List Reply) (i : ℕ) → slice_get replies i ≡ Some r.FullRoots → count_by is_new replies < length replies
+fewer_new [] i at = cc at
+fewer_new (reply ∷ replies) zero at = let e : reply ≡ r.FullRoots = cc at in rw e (omega (arith, sum_by-cons (λ (x : Reply). cond (is_new x) 1 0) r.FullRoots replies, count_by-le-length is_new replies))
+fewer_new (reply ∷ replies) (suc i) at = omega (arith, fewer_new replies i at, sum_by-cons (λ (x : Reply). cond (is_new x) 1 0) reply replies, one_at_most (is_new reply))
+  where
+    one_at_most : (b : Bool) → cond b 1 0 ≤ 1
+    one_at_most true = omega arith
+    one_at_most false = omega arith
+
+-- in a new store with a place for each line's root no line is full at its root
+pub never_full_roots : {T : Type 0} (part : Part T) (store : Store) (owner : ℕ → ℕ) (trace : List Vector) (replies : List Reply) (workers : ℕ) (old new : PassOf T)
+    → AtRest part store new → AreShared (length trace) workers owner
+    → HasRunOver (owned (length trace) owner) (entries_of_insertion trace replies) part store.about trace replies workers old new
+    → IsOfNewStore (view old) → HasRootsFor part store (length trace) → NeverAnswered replies r.FullRoots
+never_full_roots part store owner trace replies workers old new rest shared ran is_new_store room i at =
+    let h = (view new).seen in
+    let flags = store.about.flags in
+    let one = ran.one_history in
+    let agrees = subst (λ (g : History). AgreesOwned flags owner trace replies workers g h one.0) is_new_store.no_calls (one.1.alone is_new_store.whole) in
+    let names = counts-names flags owner trace replies workers h one.0 agrees shared in
+    let fresh = count-named flags h agrees.among.legal in
+    let lt : i < length trace = omega (arith, slice_get_within replies i r.FullRoots at, agrees.among.one_each) in
+    let v = placed trace i lt in
+    let barred = ran.full i v.one r.FullRoots (slice_get-get_or trace i v.one lt ∙ ap Some (v.here v.one)) at in
+    room new barred.0 rest (omega (arith, names, fresh, fewer_new replies i at, agrees.among.one_each)) barred.2

@@ -2,6 +2,7 @@
 use Rattle.std.specs.Prelude.{◌≡◌, ◌-◌, ◌*◌, ◌<◌, ◌≤◌, ℕ, List, [], Some, slice_get, count_by}
 use Rattle.tdb_base.specs.History.{is_fresh}
 use Rattle.tdb_base.specs.declared.reply.Reply.{Reply}
+use Rattle.tdb_base.specs.declared.reply.Reply.TheVariants as r
 use Rattle.pair_rule.specs.declared.view.View.{View}
 use Rattle.pair_rule.specs.declared.sizes.About.{About}
 use Rattle.pair_rule.specs.declared.pass.PassOf.{PassOf}
@@ -37,6 +38,10 @@ HasRootsFor part store lines =
 -- no line is answered so
 abbrev pub NeverAnswered : List Reply → Reply → Type 0
 NeverAnswered replies reply = (i : ℕ) → slice_get replies i ≡ Some reply → ⊥
+
+-- in a new store with this room no line is full at its root
+abbrev pub NoRootIsFull : {T : Type 0} → View T → Type 0 → List Reply → Type 0
+NoRootIsFull old Room replies = IsOfNewStore old → Room → NeverAnswered replies r.FullRoots
 
 -- a plain store whose root table has a bucket for each line, and a compact one of which each region has a
 -- cell for each line, have a place for each root

@@ -1,9 +1,12 @@
 //! Workers do a task with the lines of a trace, which are dealt out to them; and insert them, without more.
 ghost use Rattle.std.specs.Prelude.{◌≡◌, ◌≤◌, ◌^◌, IfOk, OnErr, All, length};
-ghost use Rattle.pair_rule.specs.Rest.{AtRest};
+ghost use Rattle.pair_rule.specs.Paths.{root_buckets};
+ghost use Rattle.pair_rule.specs.Rest.{AtRest, view};
 ghost use Rattle.region_root.specs.Compact.{compact};
+ghost use Rattle.region_root.specs.Layout.{most};
 ghost use Rattle.root_plain.specs.Plain.{plain};
 ghost use Rattle.tree_store.specs.Vectors.{IsVector};
+ghost use Rattle.work_run.specs.Enough.{HasBucketsFor, NoRootIsFull};
 ghost use Rattle.work_run.specs.Workers.{Unused};
 ghost use Rattle.work_run.specs.Ran.{HasRun, HasRunTask, FewPuts};
 
@@ -65,7 +68,8 @@ pub(crate) fn run_task<R: Threads + Sync, S: Shared, T: Task, G: Gate>(
 ///
 /// The lines are those of the store, at most `2^32`, and are dealt out in blocks of 1 to 65536. The replies
 /// form one history with what the pass had seen, each worker's lines once and in their order. A line is full
-/// only where a pair of its vector's tree has no place then. The gate is called round each line, with the
+/// only where a pair of its vector's tree has no place then, and never in a new store with room for all lines.
+/// The gate is called round each line, with the
 /// worker's number from 0, the line's from 1, and the steps of its insertion. All memory is taken before the
 /// first line is inserted: after `NoMemory` none was, and the pass has what it had. It waits for nobody.
 pub fn run_lines<R: Threads + Sync, G: Gate, const W: u32, const F: u32>(
@@ -86,6 +90,8 @@ pub fn run_lines<R: Threads + Sync, G: Gate, const W: u32, const F: u32>(
     ensures rest { AtRest plain store.now pass.new }
     ensures ran { IfOk result (λ replies.
         HasRun plain store.now.about trace.now replies.items workers block pass.old pass.new) }
+    ensures enough_roots { IfOk result (λ replies. NoRootIsFull (view pass.old)
+        (HasBucketsFor (length trace.now) (root_buckets store.now.about)) replies.items) }
     ensures refused { OnErr result (Unused pass.old pass.new) }
 {
     let shared = Plain { store };
@@ -114,6 +120,8 @@ pub fn run_lines_waiting<R: Threads + Wait + Sync, G: Gate, const W: u32, const 
     ensures rest { AtRest (compact W F) store.now pass.new }
     ensures ran { IfOk result (λ replies.
         HasRun (compact W F) store.now.about trace.now replies.items workers block pass.old pass.new) }
+    ensures enough_roots { IfOk result (λ replies. NoRootIsFull (view pass.old)
+        (length trace.now ≤ most store.now.about) replies.items) }
     ensures refused { OnErr result (Unused pass.old pass.new) }
 {
     let shared = Compact { rt, store };
