@@ -8,7 +8,7 @@ use Rattle.tdb_base.specs.declared.reply.Reply.{Reply}
 use Rattle.trace_csv.proofs.OneReportLemmas.{one-report}
 use Rattle.trace_csv.proofs.ReportLemmas.{lines-append, lines-none, lines-one}
 use Rattle.trace_csv.specs.OneReport.{HasWordId}
-use Rattle.trace_csv.specs.Report.{reply_line, reply_lines, summary_of}
+use Rattle.trace_csv.specs.Report.{no_extras, reply_line, reply_lines, summary_of}
 use Rattle.run_check.specs.Reading.{Misses, wrong_line}
 use Rattle.run_check.specs.Refusal.{HasReadLines, IsFront, Refuses}
 use Rattle.run_check.specs.Text.{BeginsReport, IsReportOf, IsWrongAt, text_lines, to_line}
@@ -18,7 +18,7 @@ use Rattle.run_check.specs.declared.word.Fault.{Fault}
 use Rattle.run_check.proofs.RestLemmas.{reply-wrong}
 
 pub read-none : (bytes : List ℕ) → HasReadLines 0 bytes [] bytes
-read-none bytes = record { count = refl; fit = All-nil HasWordId; cut = sym (ap (λ (t : List ℕ). t ++ bytes) (lines-none 0)) }
+read-none bytes = record { count = refl; fit = All-nil HasWordId; cut = sym (ap (λ (t : List ℕ). t ++ bytes) (lines-none no_extras 0)) }
 
 pub read-more : (i : ℕ) (bytes text rest : List ℕ) (replies : List Reply) (reply : Reply) → HasReadLines i bytes replies text → HasWordId reply → text ≡ reply_line (i + 1) reply ++ rest
     → HasReadLines (i + 1) bytes (replies ++ reply ∷ []) rest
@@ -30,8 +30,8 @@ read-more i bytes text rest replies reply old fits here = record {
   where
     lines : reply_lines 0 (replies ++ reply ∷ []) ≡ reply_lines 0 replies ++ reply_line (i + 1) reply
     lines =
-        lines-append 0 replies (reply ∷ []) ∙ ap (λ (n : ℕ). reply_lines 0 replies ++ reply_lines n (reply ∷ [])) (let count = old.count in let e : 0 + length replies ≡ i = omega arith in e)
-        ∙ ap (λ (t : List ℕ). reply_lines 0 replies ++ t) (lines-one i reply)
+        lines-append no_extras 0 replies (reply ∷ []) ∙ ap (λ (n : ℕ). reply_lines 0 replies ++ reply_lines n (reply ∷ [])) (let count = old.count in let e : 0 + length replies ≡ i = omega arith in e)
+        ∙ ap (λ (t : List ℕ). reply_lines 0 replies ++ t) (lines-one no_extras i reply)
 
 pub reply-refused : (lines i : ℕ) (bytes text : List ℕ) (replies : List Reply) (error : ReportError) (fault : Fault) → lines + 1 < 2 ^ 64 → HasReadLines i bytes replies text → i < lines
     → error ≡ e.Syntax (wrong_line (i + 1) text fault) → Misses (reply_line (i + 1)) HasWordId text fault → Refuses lines bytes error

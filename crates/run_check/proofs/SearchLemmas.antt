@@ -7,13 +7,13 @@ use Rattle.std.specs.List.{cons_option, filter_map, range_with_len, zip}
 use Rattle.tdb_base.specs.Agrees.{Agrees, entry_of_line}
 use Rattle.tdb_base.specs.History.{Vector, Entry, History}
 use Rattle.tdb_base.specs.Legal.{IsLegal}
-use Rattle.tdb_base.specs.Lines.{mine}
+use Rattle.tdb_base.specs.Lines.{dealt_to, mine}
 use Rattle.tdb_base.specs.declared.reply.Reply.{Reply}
 use Rattle.tdb_base.specs.declared.reply.Reply.TheVariants as r
 use Rattle.tdb_base.proofs.AgreesLemmas.{at-after, insertion-entries}
 use Rattle.tdb_base.proofs.ListLemmas.{At, at-contained, at-filter, at-next, at-range, before-or-last, filter-at}
 use Rattle.tdb_base.proofs.SumLemmas.{sum-ones}
-use Rattle.tdb_base.proofs.TallyLemmas.{contained-at, length-zip, line_weight, tally}
+use Rattle.tdb_base.proofs.TallyLemmas.{contained-at, dealt-shared, length-zip, line_weight, tally}
 use Rattle.run_check.specs.Reached.{owner}
 use Rattle.run_check.specs.Search.{GoesOn}
 use Rattle.run_check.specs.Sentences.{HasHistory}
@@ -123,7 +123,7 @@ module _ (trace : List Vector) (replies : List Reply) (workers block : ℕ) wher
   -- a history that has the replies has no more calls than there are lines
   short : (h : History) → 0 < workers → AgreesNow h → length h ≤ length trace
   short h some a =
-      let all = tally 0 trace replies workers block h (range_with_len 0 workers) (λ v fresh. 1) a some in
+      let all = tally 0 (dealt_to workers block) trace replies workers h (range_with_len 0 workers) (λ v fresh. 1) a (dealt-shared (length trace) workers block some) in
       let ones = sum-ones h in
       let few = sum-few (line_weight (λ v fresh. 1)) (zip trace replies) one-call in
       let same = length-zip trace replies a.among.one_each in

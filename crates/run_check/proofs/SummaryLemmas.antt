@@ -8,7 +8,7 @@ use Rattle.std.specs.Prelude.{All}
 use Rattle.tdb_base.specs.declared.reply.Reply.{Reply}
 use Rattle.tdb_base.specs.declared.reply.Reply.TheVariants as r
 use Rattle.trace_csv.specs.OneReport.{HasWordId}
-use Rattle.trace_csv.specs.Report.{answer, named_line, reply_line, reply_lines, stats_text, summary_of, summary_text}
+use Rattle.trace_csv.specs.Report.{answer, lines_with, named_line, reply_line, reply_lines, stats_text, summary_of, summary_text}
 use Rattle.trace_csv.specs.declared.report.Stats.{Stats}
 use Rattle.trace_csv.proofs.DecimalLemmas.{decimal-digit}
 use Rattle.trace_csv.proofs.OneReportLemmas.{line-cancel, named-cancel}
@@ -145,11 +145,11 @@ raw-step =
     [] refl
 
 pub lines-cons : (n : ℕ) (reply : Reply) (rest : List Reply) (s : List ℕ) → reply_lines n (reply ∷ rest) ++ s ≡ reply_line (n + 1) reply ++ (reply_lines (n + 1) rest ++ s)
-unfolding reply_lines
+unfolding lines_with
 lines-cons n reply rest s = append_assoc (reply_line (n + 1) reply) (reply_lines (n + 1) rest) s
 
 pub lines-nil : (n : ℕ) → reply_lines n [] ≡ []
-unfolding reply_lines
+unfolding lines_with
 lines-nil n = refl
 
 pub reply-step : (lines : ℕ) (done : List Reply) → length done < lines → lines + 1 < 2 ^ 64 → Step (Follows lines done) (reply_line (length done + 1)) HasWordId (λ reply. Follows lines (done ++ reply ∷ []))

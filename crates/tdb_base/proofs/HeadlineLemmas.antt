@@ -1,14 +1,14 @@
 -- The plain sentences of the headline, from the agreement of replies with a history, over lists alone.
-use Rattle.std.proofs.Common.{◌≡◌, ◌<◌, ◌/◌, ◌%◌, ℕ, zero, suc, List, [], ◌∷◌, length, Option, Some, None, Bool, true, false, cond, refl, sym, ap, subst, arith, ◌∙◌}
+use Rattle.std.proofs.Common.{◌≡◌, ◌<◌, ℕ, zero, suc, List, [], ◌∷◌, length, Option, Some, None, Bool, true, false, cond, refl, sym, ap, subst, arith, ◌∙◌}
 use Rattle.std.proofs.lemmas.List.Sums.{sum_by-cons}
 use Rattle.std.proofs.lemmas.Option.{slice_get_within}
 use Rattle.std.specs.Prelude.{◌&&◌, ◌||◌, ◌==◌, map, slice_get, count_by, sum_by, option_and_then}
 use Rattle.std.specs.List.{list_any, range_with_len, zip}
-use Rattle.tdb_base.specs.Agrees.{Agrees, AgreesAmongOthers, AgreesOver, AgreesOverAmongOthers, entries_of_insertion, entry_of}
+use Rattle.tdb_base.specs.Agrees.{AgreesOver, AgreesOverAmongOthers, AgreesOwned, AgreesOwnedAmongOthers, entries_of_insertion, entry_of}
 use Rattle.tdb_base.specs.Headline.{CountsDistinct, CountsNames, DifferentLinesDifferentIds, EachNewOnce, EqualLinesEqualIds, id_at}
 use Rattle.tdb_base.specs.History.{Vector, Put, Entry, History, calls, name_of, same}
 use Rattle.tdb_base.specs.Legal.{PutsOnly}
-use Rattle.tdb_base.specs.Lines.{distinct}
+use Rattle.tdb_base.specs.Lines.{AreShared, distinct}
 use Rattle.tdb_base.specs.Replies.{id_of, is_full, is_new}
 use Rattle.tdb_base.specs.declared.reply.Reply.{Reply}
 use Rattle.tdb_base.specs.declared.reply.Reply.TheVariants as r
@@ -45,18 +45,18 @@ line-entry-named {count} {lines_of} {line_entries} {h = h} agrees j c i e caller
     entry-named count h cut.before cut.after e agrees.legal cut.whole
 
 -- the vector of a line that was answered an identifier has it as its name
-pub line-named : (count : ℕ) (trace : List Vector) (replies : List Reply) (workers block : ℕ) (earlier h : History) (callers : List ℕ)
-    → AgreesAmongOthers count trace replies workers block earlier h callers → 0 < workers
+pub line-named : (count : ℕ) (owner : ℕ → ℕ) (trace : List Vector) (replies : List Reply) (workers : ℕ) (earlier h : History) (callers : List ℕ)
+    → AgreesOwnedAmongOthers count owner trace replies workers earlier h callers → AreShared (length trace) workers owner
     → (i : ℕ) (v : Vector) (reply : Reply) (id : ℕ) → slice_get trace i ≡ Some v → slice_get replies i ≡ Some reply → id_of reply ≡ Some id → name_of h v ≡ Some id
-line-named count trace replies workers block earlier h callers agrees some i v reply id at reply-at given =
-    let worker = i / block % workers in
-    let few : worker < length callers = rw agrees.callers_count (omega arith) in
+line-named count owner trace replies workers earlier h callers agrees shared i v reply id at reply-at given =
+    let worker = owner i in
+    let within : i < length trace = slice_get_within trace i v at in
+    let few : worker < length callers = rw agrees.callers_count (shared i within) in
     let caller = at-within callers worker few in
     let entry = tells caller.0 v reply id given in
-    let within : i < length trace = slice_get_within trace i v at in
     let numbered : slice_get (range_with_len 0 (length trace)) i ≡ Some i = at-range 0 (length trace) i within ∙ ap Some (omega arith) in
     let own : (worker == worker) ≡ true = grind arith in
-    let mine-at = at-filter (λ (k : ℕ). k / block % workers == worker) (range_with_len 0 (length trace)) i i numbered own in
+    let mine-at = at-filter (λ (k : ℕ). owner k == worker) (range_with_len 0 (length trace)) i i numbered own in
     let made : At (entries_of_insertion trace replies caller.0 i) entry.entry = (zero, rw (at, reply-at, entry.told) refl) in
     let name = line-entry-named agrees worker caller.0 i entry.entry caller.1 mine-at made in
     subst (λ (x : Vector). name_of h x ≡ Some id) entry.vector (name ∙ ap Some entry.named)
@@ -69,23 +69,23 @@ replied replies i a e = by (slice_get replies i) refl e
     by None t e = cc e
     by (Some reply) t e = (reply, t, e)
 
-pub equal-lines : (count : ℕ) (trace : List Vector) (replies : List Reply) (workers block : ℕ) (earlier h : History) (callers : List ℕ)
-    → AgreesAmongOthers count trace replies workers block earlier h callers → 0 < workers → EqualLinesEqualIds trace replies
-equal-lines count trace replies workers block earlier h callers agrees some i k v a b at-i at-k id-i id-k =
+pub equal-lines : (count : ℕ) (owner : ℕ → ℕ) (trace : List Vector) (replies : List Reply) (workers : ℕ) (earlier h : History) (callers : List ℕ)
+    → AgreesOwnedAmongOthers count owner trace replies workers earlier h callers → AreShared (length trace) workers owner → EqualLinesEqualIds trace replies
+equal-lines count owner trace replies workers earlier h callers agrees shared i k v a b at-i at-k id-i id-k =
     let first = replied replies i a id-i in
     let second = replied replies k b id-k in
-    let name = line-named count trace replies workers block earlier h callers agrees some i v first.0 a at-i first.1 first.2 in
-    let other = line-named count trace replies workers block earlier h callers agrees some k v second.0 b at-k second.1 second.2 in
+    let name = line-named count owner trace replies workers earlier h callers agrees shared i v first.0 a at-i first.1 first.2 in
+    let other = line-named count owner trace replies workers earlier h callers agrees shared k v second.0 b at-k second.1 second.2 in
     cc (name, other)
 
-pub different-lines : (count : ℕ) (trace : List Vector) (replies : List Reply) (workers block : ℕ) (earlier h : History) (callers : List ℕ)
-    → AgreesAmongOthers count trace replies workers block earlier h callers → 0 < workers → DifferentLinesDifferentIds trace replies
-different-lines count trace replies workers block earlier h callers agrees some i k v w a at-i at-k id-i id-k =
+pub different-lines : (count : ℕ) (owner : ℕ → ℕ) (trace : List Vector) (replies : List Reply) (workers : ℕ) (earlier h : History) (callers : List ℕ)
+    → AgreesOwnedAmongOthers count owner trace replies workers earlier h callers → AreShared (length trace) workers owner → DifferentLinesDifferentIds trace replies
+different-lines count owner trace replies workers earlier h callers agrees shared i k v w a at-i at-k id-i id-k =
     let first = replied replies i a id-i in
     let second = replied replies k a id-k in
     names-differ count h agrees.legal v w a
-    (line-named count trace replies workers block earlier h callers agrees some i v first.0 a at-i first.1 first.2)
-    (line-named count trace replies workers block earlier h callers agrees some k w second.0 a at-k second.1 second.2)
+    (line-named count owner trace replies workers earlier h callers agrees shared i v first.0 a at-i first.1 first.2)
+    (line-named count owner trace replies workers earlier h callers agrees shared k w second.0 a at-k second.1 second.2)
 
 -- a count over the replies is one over the lines
 pub count-replies : (p : Reply → Bool) (trace : List Vector) (replies : List Reply) → length replies ≡ length trace
@@ -108,12 +108,12 @@ new-weight v (r.Seen id) = refl
 new-weight v r.FullNodes = refl
 new-weight v r.FullRoots = refl
 
-pub counts-names : (count : ℕ) (trace : List Vector) (replies : List Reply) (workers block : ℕ) (h : History) (callers : List ℕ)
-    → Agrees count trace replies workers block [] h callers → 0 < workers → CountsNames replies h
-counts-names count trace replies workers block h callers agrees some =
+pub counts-names : (count : ℕ) (owner : ℕ → ℕ) (trace : List Vector) (replies : List Reply) (workers : ℕ) (h : History) (callers : List ℕ)
+    → AgreesOwned count owner trace replies workers [] h callers → AreShared (length trace) workers owner → CountsNames replies h
+counts-names count owner trace replies workers h callers agrees shared =
     sym (count-replies is_new trace replies agrees.among.one_each)
     ∙ sym (sum-same (line_weight (λ v fresh. cond fresh 1 0)) (λ (line : Vector × Reply). cond (is_new line.1) 1 0) (zip trace replies) (λ line at. new-weight line.0 line.1))
-    ∙ sym (tally count trace replies workers block h callers (λ v fresh. cond fresh 1 0) agrees some)
+    ∙ sym (tally count owner trace replies workers h callers (λ v fresh. cond fresh 1 0) agrees shared)
     ∙ count-named count h agrees.among.legal
 
 this-weight : (u v : Vector) (reply : Reply) → line_weight (λ v fresh. cond (fresh && same v u) 1 0) (v, reply) ≡ cond (is_new reply && same v u) 1 0
@@ -142,23 +142,23 @@ none-full (x ∷ xs) (suc k) reply none at = none-full xs k reply (rest (is_full
     rest false e = e
 
 -- where no reply is full, exactly one line of each vector is answered new
-new-once : (count : ℕ) (trace : List Vector) (replies : List Reply) (workers block : ℕ) (h : History) (callers : List ℕ)
-    → Agrees count trace replies workers block [] h callers → 0 < workers → list_any is_full replies ≡ false
+new-once : (count : ℕ) (owner : ℕ → ℕ) (trace : List Vector) (replies : List Reply) (workers : ℕ) (h : History) (callers : List ℕ)
+    → AgreesOwned count owner trace replies workers [] h callers → AreShared (length trace) workers owner → list_any is_full replies ≡ false
     → (u : Vector) → At trace u → sum_by (λ line. cond (is_new line.1 && same line.0 u) 1 0) (zip trace replies) ≡ 1
-new-once count trace replies workers block h callers agrees some none u at =
+new-once count owner trace replies workers h callers agrees shared none u at =
     let within : at.0 < length replies = rw agrees.among.one_each (slice_get_within trace at.0 u at.1) in
     let reply = at-within replies at.0 within in
     let given = not-full reply.0 (none-full replies at.0 reply.0 none reply.1) in
-    let name = line-named count trace replies workers block [] h callers agrees.among some at.0 u reply.0 given.0 at.1 reply.1 given.1 in
+    let name = line-named count owner trace replies workers [] h callers agrees.among shared at.0 u reply.0 given.0 at.1 reply.1 given.1 in
     sym (sum-same (line_weight (λ v fresh. cond (fresh && same v u) 1 0)) (λ (line : Vector × Reply). cond (is_new line.1 && same line.0 u) 1 0) (zip trace replies)
     (λ line k. this-weight u line.0 line.1))
-    ∙ sym (tally count trace replies workers block h callers (λ v fresh. cond (fresh && same v u) 1 0) agrees some)
+    ∙ sym (tally count owner trace replies workers h callers (λ v fresh. cond (fresh && same v u) 1 0) agrees shared)
     ∙ gives-once count u h agrees.among.legal ∙ rw name refl
 
-pub each-new-once : (count : ℕ) (trace : List Vector) (replies : List Reply) (workers block : ℕ) (h : History) (callers : List ℕ)
-    → Agrees count trace replies workers block [] h callers → 0 < workers → EachNewOnce trace replies
-each-new-once count trace replies workers block h callers agrees some none v there =
-    new-once count trace replies workers block h callers agrees some none v (at-contained trace v there)
+pub each-new-once : (count : ℕ) (owner : ℕ → ℕ) (trace : List Vector) (replies : List Reply) (workers : ℕ) (h : History) (callers : List ℕ)
+    → AgreesOwned count owner trace replies workers [] h callers → AreShared (length trace) workers owner → EachNewOnce trace replies
+each-new-once count owner trace replies workers h callers agrees shared none v there =
+    new-once count owner trace replies workers h callers agrees shared none v (at-contained trace v there)
 
 and-swapped : (a b : Bool) → (a && b) ≡ (b && a)
 and-swapped true true = refl
@@ -171,9 +171,9 @@ zip-firsts [] replies h = refl
 zip-firsts (v ∷ trace) [] h = absurd (omega arith)
 zip-firsts (v ∷ trace) (reply ∷ replies) h = ap (λ t. v ∷ t) (zip-firsts trace replies (omega arith))
 
-pub counts-distinct : (count : ℕ) (trace : List Vector) (replies : List Reply) (workers block : ℕ) (h : History) (callers : List ℕ)
-    → Agrees count trace replies workers block [] h callers → 0 < workers → CountsDistinct trace replies
-counts-distinct count trace replies workers block h callers agrees some none =
+pub counts-distinct : (count : ℕ) (owner : ℕ → ℕ) (trace : List Vector) (replies : List Reply) (workers : ℕ) (h : History) (callers : List ℕ)
+    → AgreesOwned count owner trace replies workers [] h callers → AreShared (length trace) workers owner → CountsDistinct trace replies
+counts-distinct count owner trace replies workers h callers agrees shared none =
     let lines = zip trace replies in
     sym (count-replies is_new trace replies agrees.among.one_each)
     ∙ distinct-sum (λ (line : Vector × Reply). line.0) (λ (line : Vector × Reply). cond (is_new line.1) 1 0) lines
@@ -181,7 +181,7 @@ counts-distinct count trace replies workers block h callers agrees some none =
     count-filter (λ (line : Vector × Reply). same line.0 x.0) (λ (line : Vector × Reply). is_new line.1) lines
     ∙ count-same (λ (line : Vector × Reply). same line.0 x.0 && is_new line.1) (λ (line : Vector × Reply). is_new line.1 && same line.0 x.0) lines
     (λ line. and-swapped (same line.0 x.0) (is_new line.1))
-    ∙ new-once count trace replies workers block h callers agrees some none x.0 (at.0, both.0))
+    ∙ new-once count owner trace replies workers h callers agrees shared none x.0 (at.0, both.0))
     ∙ ap (λ (t : List Vector). length (distinct t)) (zip-firsts trace replies agrees.among.one_each)
 
 -- where no flag is set, cleared or read, replies agree whatever the number of flags is

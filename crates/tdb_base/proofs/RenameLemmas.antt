@@ -6,7 +6,7 @@ use Rattle.std.proofs.lemmas.List.Sums.{position_or_len_is}
 use Rattle.std.proofs.lemmas.Option.{get_or_from_slice_get, slice_get-get_or, slice_get_within}
 use Rattle.std.specs.Prelude.{◌==◌, Contains, filter, flat_map, if◌then◌else◌, map, option_to_list, slice_get}
 use Rattle.std.specs.List.{range_with_len}
-use Rattle.tdb_base.specs.Agrees.{Agrees, AgreesOver, entries_of_insertion, entry_of_both}
+use Rattle.tdb_base.specs.Agrees.{AgreesOver, AgreesOwned, entries_of_insertion, entry_of_both}
 use Rattle.tdb_base.specs.History.{Vector, Act, Put, Set, Clear, Look, Entry, History, calls, flags_after, flags_of, is_fresh, name_of, names, same}
 use Rattle.tdb_base.specs.Legal.{Allows, IsLegal}
 use Rattle.tdb_base.specs.Lines.{distinct, named}
@@ -237,7 +237,7 @@ agrees-numbered {flag_count} {lines_of} {line_entries} {trace} {replies} {worker
         let at : slice_get callers there.0 ≡ Some a = subst (λ (k : ℕ). slice_get callers k ≡ Some a) one here.1 in
         cc (at, there.1)
 
-pub agrees_renamed : (flag_count : ℕ) (trace : List Vector) (replies : List Reply) (workers block : ℕ) (h : History) (callers : List ℕ)
-    → Agrees flag_count trace replies workers block [] h callers
-    → Agrees flag_count trace replies workers block [] (renamed (position_of callers) h) (range_with_len 0 workers)
-agrees_renamed flag_count trace replies workers block h callers agrees = agrees-numbered (insertion-renamed trace replies) agrees
+pub agrees_renamed : (flag_count : ℕ) (owner : ℕ → ℕ) (trace : List Vector) (replies : List Reply) (workers : ℕ) (h : History) (callers : List ℕ)
+    → AgreesOwned flag_count owner trace replies workers [] h callers
+    → AgreesOwned flag_count owner trace replies workers [] (renamed (position_of callers) h) (range_with_len 0 workers)
+agrees_renamed flag_count owner trace replies workers h callers agrees = agrees-numbered (insertion-renamed trace replies) agrees

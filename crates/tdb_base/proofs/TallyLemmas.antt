@@ -1,11 +1,12 @@
 -- Whatever is counted over the lines of a trace and their replies counts the same over the entries of a history that agrees with them.
-use Rattle.std.proofs.Common.{◌≡◌, ◌≢◌, ◌<◌, ◌/◌, ◌%◌, ℕ, zero, suc, List, [], ◌∷◌, length, Option, Some, None, Bool, true, false, refl, sym, ap, arith, ◌∙◌}
+use Rattle.std.proofs.Common.{◌≡◌, ◌≢◌, ◌<◌, ◌+◌, ◌/◌, ℕ, zero, suc, List, [], ◌∷◌, length, Option, Some, None, Bool, true, false, refl, sym, ap, arith, ◌∙◌}
+use Rattle.std.proofs.lemmas.Nat.{mod_below}
 use Rattle.std.proofs.lemmas.Option.{slice_get_within, get_or_from_slice_get}
 use Rattle.std.specs.Prelude.{◌==◌, Contains, slice_get, count_by, sum_by}
 use Rattle.std.specs.List.{range_with_len, zip}
-use Rattle.tdb_base.specs.Agrees.{Agrees, entry_of_line, entry_of, entry_of_both}
+use Rattle.tdb_base.specs.Agrees.{AgreesOwned, entry_of_line, entry_of, entry_of_both}
 use Rattle.tdb_base.specs.History.{Vector, Entry, History, calls, is_fresh}
-use Rattle.tdb_base.specs.Lines.{mine}
+use Rattle.tdb_base.specs.Lines.{AreShared, dealt_to, owned}
 use Rattle.tdb_base.specs.declared.reply.Reply.{Reply}
 use Rattle.tdb_base.specs.declared.reply.Reply.TheVariants as r
 use Rattle.tdb_base.proofs.AgreesLemmas.{insertion-entries}
@@ -79,14 +80,24 @@ place-weight : (w : Vector → Bool → ℕ) (trace : List Vector) (replies : Li
     → slice_get trace i ≡ Some v → slice_get replies i ≡ Some reply → line_weight w (v, reply) ≡ place_weight w trace replies i
 place-weight w trace replies i v reply a b = rw (a, b) refl
 
+-- a number of a range is below its end
+range-below : (n from k x : ℕ) → slice_get (range_with_len from n) k ≡ Some x → x < from + n
+range-below zero from k x at = cc at
+range-below (suc n) from zero x at = let first : from ≡ x = cc at in omega arith
+range-below (suc n) from (suc k) x at = let rest = range-below n (from + 1) k x at in omega (arith, rest)
+
+-- each line is dealt out to some worker
+pub dealt-shared : (lines workers block : ℕ) → 0 < workers → AreShared lines workers (dealt_to workers block)
+dealt-shared lines workers block some i lt = mod_below (i / block) workers some
+
 -- the entries of a history from nothing, worker by worker, against the lines
-pub tally : (count : ℕ) (trace : List Vector) (replies : List Reply) (workers block : ℕ) (h : History) (callers : List ℕ) (w : Vector → Bool → ℕ)
-    → Agrees count trace replies workers block [] h callers → 0 < workers
+pub tally : (count : ℕ) (owner : ℕ → ℕ) (trace : List Vector) (replies : List Reply) (workers : ℕ) (h : History) (callers : List ℕ) (w : Vector → Bool → ℕ)
+    → AgreesOwned count owner trace replies workers [] h callers → AreShared (length trace) workers owner
     → sum_by (entry_weight w) h ≡ sum_by (line_weight w) (zip trace replies)
-tally count trace replies workers block h callers w agrees some =
+tally count owner trace replies workers h callers w agrees shared =
     let numbers = range_with_len 0 (length trace) in
     let place = place_weight w trace replies in
-    let mine_of = λ (j : ℕ). mine (length trace) workers block j in
+    let mine_of = λ (j : ℕ). owned (length trace) owner j in
     let by-caller : sum_by (entry_weight w) h ≡ sum_by (λ c. sum_by (entry_weight w) (calls h c)) callers =
     sum-by-classes (λ (a b : ℕ). a == b) (λ (e : Entry). e.caller) callers (entry_weight w) h
     (λ e at. let known = at-contained callers e.caller (agrees.no_others h refl e (contained-at h e at)) in
@@ -100,8 +111,8 @@ tally count trace replies workers block h callers w agrees some =
     sum-places (λ (c : ℕ). sum_by (entry_weight w) (calls h c)) (λ (j : ℕ). sum_by place (mine_of j)) 0 callers
     (λ k c at. worker k c at ∙ ap (λ (j : ℕ). sum_by place (mine_of j)) (omega arith)) in
     let all-lines : sum_by place numbers ≡ sum_by (λ j. sum_by place (mine_of j)) (range_with_len 0 workers) =
-    sum-by-classes (λ (a b : ℕ). a == b) (λ (i : ℕ). i / block % workers) (range_with_len 0 workers) place numbers
-    (λ i at. count-range workers 0 (i / block % workers) (omega arith) (omega arith)) in
+    sum-by-classes (λ (a b : ℕ). a == b) owner (range_with_len 0 workers) place numbers
+    (λ i at. let below = shared i (let lt = range-below (length trace) 0 at.0 i at.1 in omega (arith, lt)) in count-range workers 0 (owner i) (omega arith) (omega arith)) in
     let lines : sum_by (line_weight w) (zip trace replies) ≡ sum_by place (range_with_len 0 (length (zip trace replies))) =
     sum-places (line_weight w) place 0 (zip trace replies)
     (λ k line at. let both = zip-at trace replies line k at in

@@ -6,7 +6,7 @@ use Rattle.std.specs.List.{filter_map, zip}
 use Rattle.tdb_base.specs.Replies.{is_full}
 use Rattle.tdb_base.specs.History.{Vector, Put, Entry, History, name_of, calls}
 use Rattle.tdb_base.specs.Legal.{IsLegal, Extends}
-use Rattle.tdb_base.specs.Lines.{mine}
+use Rattle.tdb_base.specs.Lines.{dealt_to, owned}
 use Rattle.tdb_base.specs.declared.reply.Reply.{Reply}
 use Rattle.tdb_base.specs.declared.reply.Reply.TheVariants as r
 
@@ -62,18 +62,32 @@ pub record AgreesOver (flag_count : ℕ) (lines_of : ℕ → List ℕ) (line_ent
   pub no_others : (more : History) → later ≡ earlier ++ more
       → (e : Entry) → Contains more e → Contains callers e.caller
 
+-- this says whose each line is, and the lines are inserted
+abbrev pub AgreesOwnedAmongOthers :
+    (flag_count : ℕ) (owner : ℕ → ℕ) (trace : List Vector) (replies : List Reply) (workers : ℕ)
+    (earlier later : History) (callers : List ℕ) → Type 0
+AgreesOwnedAmongOthers flag_count owner trace replies workers earlier later callers =
+    AgreesOverAmongOthers flag_count (owned (length trace) owner) (entries_of_insertion trace replies)
+    trace replies workers earlier later callers
+
+-- the same, where nobody else called after the earlier history
+abbrev pub AgreesOwned :
+    (flag_count : ℕ) (owner : ℕ → ℕ) (trace : List Vector) (replies : List Reply) (workers : ℕ)
+    (earlier later : History) (callers : List ℕ) → Type 0
+AgreesOwned flag_count owner trace replies workers earlier later callers =
+    AgreesOver flag_count (owned (length trace) owner) (entries_of_insertion trace replies)
+    trace replies workers earlier later callers
+
 -- the lines are dealt out to the workers in blocks of `block` lines, and inserted
 abbrev pub AgreesAmongOthers :
     (flag_count : ℕ) (trace : List Vector) (replies : List Reply) (workers block : ℕ)
     (earlier later : History) (callers : List ℕ) → Type 0
-AgreesAmongOthers flag_count trace replies workers block earlier later callers =
-    AgreesOverAmongOthers flag_count (mine (length trace) workers block) (entries_of_insertion trace replies)
-    trace replies workers earlier later callers
+AgreesAmongOthers flag_count trace replies workers block =
+    AgreesOwnedAmongOthers flag_count (dealt_to workers block) trace replies workers
 
 -- the same, where nobody else called after the earlier history
 abbrev pub Agrees :
     (flag_count : ℕ) (trace : List Vector) (replies : List Reply) (workers block : ℕ)
     (earlier later : History) (callers : List ℕ) → Type 0
-Agrees flag_count trace replies workers block earlier later callers =
-    AgreesOver flag_count (mine (length trace) workers block) (entries_of_insertion trace replies)
-    trace replies workers earlier later callers
+Agrees flag_count trace replies workers block =
+    AgreesOwned flag_count (dealt_to workers block) trace replies workers

@@ -1,6 +1,6 @@
 -- What `decimal` writes of any number, however large: digits, the last 64 at most. So a number of 64 bits
 -- shares its text with no other number.
-use Rattle.std.proofs.Common.{◌≡◌, ◌≤◌, ◌<◌, ◌+◌, ◌*◌, ◌/◌, ◌%◌, ◌^◌, ◌∙◌, ℕ, zero, suc, Bool, true, false, List, [], ◌∷◌, length, get_or, decimal, refl, sym, ap, arith, rules, eqb-true, lt-ltb, le-leb, mod-lt, pow-suc, ⊎_elim, if◌then◌else◌}
+use Rattle.std.proofs.Common.{◌≡◌, ◌≤◌, ◌<◌, ◌+◌, ◌/◌, ◌%◌, ◌^◌, ◌∙◌, ℕ, zero, suc, Bool, true, false, List, [], ◌∷◌, length, get_or, decimal, refl, sym, ap, arith, rules, eqb-true, lt-ltb, le-leb, pow-suc, ⊎_elim, if◌then◌else◌}
 use Rattle.std.proofs.lemmas.Bool.{cases_lt}
 use Rattle.std.proofs.lemmas.Fmt.{decimal_is_IsNumeral, decimal_is_IsNumeral_wide, length-decimal-le}
 use Rattle.std.specs.Char.{is_ascii_digit}

@@ -1,15 +1,15 @@
 -- A report is read in one way: a number ends where its digits do, and a line tells its reply.
-use Rattle.std.proofs.Common.{◌≡◌, ◌≤◌, ◌<◌, ◌+◌, ◌^◌, ◌∙◌, ℕ, List, [], ◌∷◌, ◌++◌, length, get_or, take, drop, true, false, codes, decimal, refl, sym, ap, arith, rules, append_assoc, length-append}
+use Rattle.std.proofs.Common.{◌≡◌, ◌≤◌, ◌<◌, ◌+◌, ◌^◌, ◌∙◌, ℕ, zero, suc, List, [], ◌∷◌, ◌++◌, length, get_or, take, drop, true, false, codes, decimal, refl, sym, ap, subst, arith, append_assoc, length-append}
 use Rattle.std.proofs.lemmas.List.{append_cancel_left, get_or_append_left, get_or_at, take_at}
-use Rattle.std.proofs.lemmas.List.Elements.{All-head, All-tail}
+use Rattle.std.proofs.lemmas.List.Elements.{All-get_or, All-head, All-tail}
 use Rattle.std.proofs.lemmas.List.Sums.{prefix_len_is}
 use Rattle.std.specs.Char.{is_ascii_digit}
 use Rattle.std.specs.List.{prefix_len}
-use Rattle.std.specs.Prelude.{◌==◌, All}
+use Rattle.std.specs.Prelude.{◌==◌, All, slice_index, ⊤}
 use Rattle.tdb_base.specs.declared.reply.Reply.{Reply}
 use Rattle.tdb_base.specs.declared.reply.Reply.TheVariants as r
-use Rattle.trace_csv.specs.OneReport.{HasWordId, OneReport}
-use Rattle.trace_csv.specs.Report.{answer, named_line, reply_line, reply_lines, summary_text}
+use Rattle.trace_csv.specs.OneReport.{HasWordId, OneDrawnReport, OneReport}
+use Rattle.trace_csv.specs.Report.{Extras, answer, answer_ending, drawers, line_ending, lines_with, named_line, no_extras, reply_line, summary_with}
 use Rattle.trace_csv.specs.declared.report.Summary.{Summary}
 use Rattle.trace_csv.proofs.DecimalLemmas.{decimal-digit, decimal-own, decimal-some}
 
@@ -58,40 +58,50 @@ comma-cancel a b u v x y one e =
 pub comma-first : (n : ℕ) (u v x : List ℕ) → (decimal n ++ u) ++ x ≡ 44 ∷ v → ⊥
 comma-first n u v x e = not-digit-first n 44 (u ++ x) v refl (sym (append_assoc (decimal n) u x) ∙ e)
 
-new-seen : (x y : List ℕ) → codes "new\n" ++ x ≡ codes "seen\n" ++ y → ⊥
-new-seen x y e = cc e
-
 apart : true ≡ false → ⊥
 apart e = cc e
 
-nodes-roots : (x y : List ℕ) → codes ",full-nodes\n" ++ x ≡ codes ",full-roots\n" ++ y → ⊥
-nodes-roots x y e = apart (ap (λ (t : List ℕ). get_or t 6 0 == 110) e)
+new-seen : (u v x y : List ℕ) → (codes "new" ++ u) ++ x ≡ (codes "seen" ++ v) ++ y → ⊥
+new-seen u v x y e = apart (ap (λ (t : List ℕ). get_or t 0 0 == 110) e)
+
+nodes-roots : (u v x y : List ℕ) → (codes ",full-nodes" ++ u) ++ x ≡ (codes ",full-roots" ++ v) ++ y → ⊥
+nodes-roots u v x y e = apart (ap (λ (t : List ℕ). get_or t 6 0 == 110) e)
+
+-- an answer, and what its line ends with
+pub answer-ends : (u v : List ℕ) (p q : Reply) (x y : List ℕ) → HasWordId p → answer_ending u p ++ x ≡ answer_ending v q ++ y
+    → (p ≡ q) × (u ++ x ≡ v ++ y)
+answer-ends u v (r.New a) (r.New b) x y one e =
+    let both = comma-cancel a b (codes "new" ++ u) (codes "new" ++ v) x y one e in (ap r.New both.0, append_cancel_left (codes "new") (u ++ x) (v ++ y) both.1)
+answer-ends u v (r.New a) (r.Seen b) x y one e = absurd (new-seen u v x y (comma-cancel a b (codes "new" ++ u) (codes "seen" ++ v) x y one e).1)
+answer-ends u v (r.New a) r.FullNodes x y one e = absurd (comma-first a (codes ",new" ++ u) (codes "full-nodes" ++ (v ++ y)) x e)
+answer-ends u v (r.New a) r.FullRoots x y one e = absurd (comma-first a (codes ",new" ++ u) (codes "full-roots" ++ (v ++ y)) x e)
+answer-ends u v (r.Seen a) (r.New b) x y one e = absurd (new-seen v u y x (sym (comma-cancel a b (codes "seen" ++ u) (codes "new" ++ v) x y one e).1))
+answer-ends u v (r.Seen a) (r.Seen b) x y one e =
+    let both = comma-cancel a b (codes "seen" ++ u) (codes "seen" ++ v) x y one e in (ap r.Seen both.0, append_cancel_left (codes "seen") (u ++ x) (v ++ y) both.1)
+answer-ends u v (r.Seen a) r.FullNodes x y one e = absurd (comma-first a (codes ",seen" ++ u) (codes "full-nodes" ++ (v ++ y)) x e)
+answer-ends u v (r.Seen a) r.FullRoots x y one e = absurd (comma-first a (codes ",seen" ++ u) (codes "full-roots" ++ (v ++ y)) x e)
+answer-ends u v r.FullNodes (r.New b) x y one e = absurd (comma-first b (codes ",new" ++ v) (codes "full-nodes" ++ (u ++ x)) y (sym e))
+answer-ends u v r.FullNodes (r.Seen b) x y one e = absurd (comma-first b (codes ",seen" ++ v) (codes "full-nodes" ++ (u ++ x)) y (sym e))
+answer-ends u v r.FullNodes r.FullNodes x y one e = (refl, append_cancel_left (codes ",full-nodes") (u ++ x) (v ++ y) e)
+answer-ends u v r.FullNodes r.FullRoots x y one e = absurd (nodes-roots u v x y e)
+answer-ends u v r.FullRoots (r.New b) x y one e = absurd (comma-first b (codes ",new" ++ v) (codes "full-roots" ++ (u ++ x)) y (sym e))
+answer-ends u v r.FullRoots (r.Seen b) x y one e = absurd (comma-first b (codes ",seen" ++ v) (codes "full-roots" ++ (u ++ x)) y (sym e))
+answer-ends u v r.FullRoots r.FullNodes x y one e = absurd (nodes-roots v u y x (sym e))
+answer-ends u v r.FullRoots r.FullRoots x y one e = (refl, append_cancel_left (codes ",full-roots") (u ++ x) (v ++ y) e)
 
 pub answer-cancel : (p q : Reply) (x y : List ℕ) → HasWordId p → answer p ++ x ≡ answer q ++ y → (p ≡ q) × (x ≡ y)
-answer-cancel (r.New a) (r.New b) x y one e =
-    let both = comma-cancel a b (codes "new\n") (codes "new\n") x y one e in (ap r.New both.0, append_cancel_left (codes "new\n") x y both.1)
-answer-cancel (r.New a) (r.Seen b) x y one e = absurd (new-seen x y (comma-cancel a b (codes "new\n") (codes "seen\n") x y one e).1)
-answer-cancel (r.New a) r.FullNodes x y one e = absurd (comma-first a (codes ",new\n") (codes "full-nodes\n" ++ y) x e)
-answer-cancel (r.New a) r.FullRoots x y one e = absurd (comma-first a (codes ",new\n") (codes "full-roots\n" ++ y) x e)
-answer-cancel (r.Seen a) (r.New b) x y one e = absurd (new-seen y x (sym (comma-cancel a b (codes "seen\n") (codes "new\n") x y one e).1))
-answer-cancel (r.Seen a) (r.Seen b) x y one e =
-    let both = comma-cancel a b (codes "seen\n") (codes "seen\n") x y one e in (ap r.Seen both.0, append_cancel_left (codes "seen\n") x y both.1)
-answer-cancel (r.Seen a) r.FullNodes x y one e = absurd (comma-first a (codes ",seen\n") (codes "full-nodes\n" ++ y) x e)
-answer-cancel (r.Seen a) r.FullRoots x y one e = absurd (comma-first a (codes ",seen\n") (codes "full-roots\n" ++ y) x e)
-answer-cancel r.FullNodes (r.New b) x y one e = absurd (comma-first b (codes ",new\n") (codes "full-nodes\n" ++ x) y (sym e))
-answer-cancel r.FullNodes (r.Seen b) x y one e = absurd (comma-first b (codes ",seen\n") (codes "full-nodes\n" ++ x) y (sym e))
-answer-cancel r.FullNodes r.FullNodes x y one e = (refl, append_cancel_left (codes ",full-nodes\n") x y e)
-answer-cancel r.FullNodes r.FullRoots x y one e = absurd (nodes-roots x y e)
-answer-cancel r.FullRoots (r.New b) x y one e = absurd (comma-first b (codes ",new\n") (codes "full-roots\n" ++ x) y (sym e))
-answer-cancel r.FullRoots (r.Seen b) x y one e = absurd (comma-first b (codes ",seen\n") (codes "full-roots\n" ++ x) y (sym e))
-answer-cancel r.FullRoots r.FullNodes x y one e = absurd (nodes-roots y x (sym e))
-answer-cancel r.FullRoots r.FullRoots x y one e = (refl, append_cancel_left (codes ",full-roots\n") x y e)
+answer-cancel p q x y one e = let both = answer-ends (codes "\n") (codes "\n") p q x y one e in (both.0, tail-same 10 10 x y both.1)
+
+-- a line, and what it ends with
+line-ends : (n : ℕ) (u v : List ℕ) (p q : Reply) (x y : List ℕ) → HasWordId p → line_ending u n p ++ x ≡ line_ending v n q ++ y
+    → (p ≡ q) × ((u ++ codes "\n") ++ x ≡ (v ++ codes "\n") ++ y)
+line-ends n u v p q x y one e =
+    answer-ends (u ++ codes "\n") (v ++ codes "\n") p q x y one
+    (append_cancel_left (decimal n ++ codes ",") (answer_ending (u ++ codes "\n") p ++ x) (answer_ending (v ++ codes "\n") q ++ y)
+    (sym (append_assoc (decimal n ++ codes ",") (answer_ending (u ++ codes "\n") p) x) ∙ e ∙ append_assoc (decimal n ++ codes ",") (answer_ending (v ++ codes "\n") q) y))
 
 pub line-cancel : (n : ℕ) (p q : Reply) (x y : List ℕ) → HasWordId p → reply_line n p ++ x ≡ reply_line n q ++ y → (p ≡ q) × (x ≡ y)
-line-cancel n p q x y one e =
-    answer-cancel p q x y one
-    (append_cancel_left (decimal n ++ codes ",") (answer p ++ x) (answer q ++ y)
-    (sym (append_assoc (decimal n ++ codes ",") (answer p) x) ∙ e ∙ append_assoc (decimal n ++ codes ",") (answer q) y))
+line-cancel n p q x y one e = let both = line-ends n [] [] p q x y one e in (both.0, tail-same 10 10 x y both.1)
 
 named-text : (name : List ℕ) (n : ℕ) (x : List ℕ) → named_line name n ++ x ≡ name ++ (decimal n ++ 10 ∷ x)
 named-text name n x = append_assoc (name ++ decimal n) (codes "\n") x ∙ append_assoc name (decimal n) (10 ∷ x)
@@ -101,28 +111,71 @@ named-cancel name a b x y one e =
     number-cancel a b 10 x y one refl
     (append_cancel_left name (decimal a ++ 10 ∷ x) (decimal b ++ 10 ∷ y) (sym (named-text name a x) ∙ e ∙ named-text name b y))
 
--- a line of a reply doesn't begin as the summary does
-summary-other : (n : ℕ) (p : Reply) (x : List ℕ) (s : Summary) → reply_line n p ++ x ≡ summary_text s → ⊥
-summary-other n p x s e =
-    let text = append_assoc (decimal n ++ codes ",") (answer p) x ∙ append_assoc (decimal n) (codes ",") (answer p ++ x) in
-    not-digit-first n 108 (codes "," ++ (answer p ++ x)) (drop 1 (summary_text s)) refl (sym text ∙ e)
+-- a line of a reply doesn't begin as a summary does
+summary-other : (end : List ℕ) (n : ℕ) (p : Reply) (x counts : List ℕ) (s : Summary) → line_ending end n p ++ x ≡ summary_with counts s → ⊥
+summary-other end n p x counts s e =
+    let answered = answer_ending (end ++ codes "\n") p in
+    let text = append_assoc (decimal n ++ codes ",") answered x ∙ append_assoc (decimal n) (codes ",") (answered ++ x) in
+    not-digit-first n 108 (codes "," ++ (answered ++ x)) (drop 1 (summary_with counts s)) refl (sym text ∙ e)
 
-lines-same : (n : ℕ) (xs ys : List Reply) (s t : Summary) → All HasWordId xs
-    → reply_lines n xs ++ summary_text s ≡ reply_lines n ys ++ summary_text t → xs ≡ ys
-unfolding reply_lines
-lines-same n [] [] s t all e = refl
-lines-same n [] (q ∷ ys) s t all e =
-    absurd (summary-other (n + 1) q (reply_lines (n + 1) ys ++ summary_text t) s
-    (sym (append_assoc (reply_line (n + 1) q) (reply_lines (n + 1) ys) (summary_text t)) ∙ sym e))
-lines-same n (p ∷ xs) [] s t all e =
-    absurd (summary-other (n + 1) p (reply_lines (n + 1) xs ++ summary_text s) t
-    (sym (append_assoc (reply_line (n + 1) p) (reply_lines (n + 1) xs) (summary_text s)) ∙ e))
-lines-same n (p ∷ xs) (q ∷ ys) s t all e =
-    let both = line-cancel (n + 1) p q (reply_lines (n + 1) xs ++ summary_text s) (reply_lines (n + 1) ys ++ summary_text t)
-    (All-head HasWordId p xs all)
-    (sym (append_assoc (reply_line (n + 1) p) (reply_lines (n + 1) xs) (summary_text s)) ∙ e ∙ append_assoc (reply_line (n + 1) q) (reply_lines (n + 1) ys) (summary_text t)) in
-    let rest = lines-same (n + 1) xs ys s t (All-tail HasWordId p xs all) both.1 in
-    ap (λ (z : Reply). z ∷ xs) both.0 ∙ ap (λ (zs : List Reply). q ∷ zs) rest
+-- the ends of lines with one number tell something of it, and where they end
+abbrev TellsAt : (one other : Extras) → (ℕ → Type 0) → ℕ → Type 0
+TellsAt one other Tells i = (p : Reply) (x y : List ℕ)
+    → (one.ends i p ++ codes "\n") ++ x ≡ (other.ends i p ++ codes "\n") ++ y → Tells i × (x ≡ y)
+
+-- what is told of a number and of those behind it
+told-from : (Tells : ℕ → Type 0) (n count : ℕ) → Tells n → ((k : ℕ) → k < count → Tells ((n + 1) + k)) → (k : ℕ) → k < suc count → Tells (n + k)
+told-from Tells n count first rest zero lt = subst Tells (let e : n ≡ n + 0 = omega arith in e) first
+told-from Tells n count first rest (suc k) lt = subst Tells (let e : (n + 1) + k ≡ n + suc k = omega arith in e) (rest k (omega arith))
+
+-- reports with these ends have the same replies, and lines with one number tell what their ends do
+lines-same : (one other : Extras) (Tells : ℕ → Type 0) (s t : Summary) (n : ℕ) (xs ys : List Reply) → All HasWordId xs
+    → ((k : ℕ) → k < length xs → TellsAt one other Tells (n + k))
+    → lines_with one n xs ++ summary_with one.counts s ≡ lines_with other n ys ++ summary_with other.counts t
+    → (xs ≡ ys) × ((k : ℕ) → k < length xs → Tells (n + k))
+unfolding lines_with
+lines-same one other Tells s t n [] [] all tell e = (refl, λ k lt. absurd (omega (arith, lt)))
+lines-same one other Tells s t n [] (q ∷ ys) all tell e =
+    absurd (summary-other (other.ends n q) (n + 1) q (lines_with other (n + 1) ys ++ summary_with other.counts t) one.counts s
+    (sym (append_assoc (line_ending (other.ends n q) (n + 1) q) (lines_with other (n + 1) ys) (summary_with other.counts t)) ∙ sym e))
+lines-same one other Tells s t n (p ∷ xs) [] all tell e =
+    absurd (summary-other (one.ends n p) (n + 1) p (lines_with one (n + 1) xs ++ summary_with one.counts s) other.counts t
+    (sym (append_assoc (line_ending (one.ends n p) (n + 1) p) (lines_with one (n + 1) xs) (summary_with one.counts s)) ∙ e))
+lines-same one other Tells s t n (p ∷ xs) (q ∷ ys) all tell e =
+    let more = lines_with one (n + 1) xs ++ summary_with one.counts s in
+    let others = lines_with other (n + 1) ys ++ summary_with other.counts t in
+    let both = line-ends (n + 1) (one.ends n p) (other.ends n q) p q more others (All-head HasWordId p xs all)
+    (sym (append_assoc (line_ending (one.ends n p) (n + 1) p) (lines_with one (n + 1) xs) (summary_with one.counts s)) ∙ e
+    ∙ append_assoc (line_ending (other.ends n q) (n + 1) q) (lines_with other (n + 1) ys) (summary_with other.counts t)) in
+    let here : TellsAt one other Tells n = subst (TellsAt one other Tells) (let z : n + 0 ≡ n = omega arith in z) (tell 0 (omega arith)) in
+    let told = here p more others (subst (λ (z : Reply). (one.ends n p ++ codes "\n") ++ more ≡ (other.ends n z ++ codes "\n") ++ others) (sym both.0) both.1) in
+    let rest = lines-same one other Tells s t (n + 1) xs ys (All-tail HasWordId p xs all)
+    (λ k lt. subst (TellsAt one other Tells) (let z : n + suc k ≡ (n + 1) + k = omega arith in z) (tell (suc k) (omega arith))) told.1 in (
+      ap (λ (z : Reply). z ∷ xs) both.0 ∙ ap (λ (zs : List Reply). q ∷ zs) rest.0,
+      told-from Tells n (length xs) told.0 rest.1,
+    )
 
 pub one-report : OneReport
-one-report replies others summary other all e = lines-same 0 replies others summary other all e
+one-report replies others summary other all e =
+    (lines-same no_extras no_extras (λ k. ⊤) summary other 0 replies others all (λ k lt p x y f. (tt, tail-same 10 10 x y f)) e).0
+
+-- lists of one length with the same numbers at all places are the same
+same-numbers : (xs ys : List ℕ) → length xs ≡ length ys → ((k : ℕ) → k < length xs → slice_index xs k ≡ slice_index ys k) → xs ≡ ys
+same-numbers [] [] long same = refl
+same-numbers [] (y ∷ ys) long same = absurd (omega (arith, long))
+same-numbers (x ∷ xs) [] long same = absurd (omega (arith, long))
+same-numbers (x ∷ xs) (y ∷ ys) long same =
+    let first : x ≡ y = same 0 (omega arith) in
+    let rest = same-numbers xs ys (omega (arith, long)) (λ k lt. same (suc k) (omega arith)) in
+    ap (λ (z : ℕ). z ∷ xs) first ∙ ap (λ (zs : List ℕ). y ∷ zs) rest
+
+pub one-drawn-report : OneDrawnReport
+one-drawn-report replies others drawn workers summary other all fit long same e =
+    let Tells : ℕ → Type 0 = λ k. slice_index drawn k ≡ slice_index workers k in
+    let both = lines-same (drawers drawn) (drawers workers) Tells summary other 0 replies others all
+    (λ k lt p x y f. number-cancel (slice_index drawn (0 + k)) (slice_index workers (0 + k)) 10 x y (All-get_or (λ (j : ℕ). j < 2 ^ 64) drawn (0 + k) 0 (omega arith) fit) refl
+    (sym (number-text (slice_index drawn (0 + k)) 10 [] x) ∙ tail-same 44 44 _ _ f ∙ number-text (slice_index workers (0 + k)) 10 [] y)) e in
+    let count = ap (λ (z : List Reply). length z) both.0 in (
+      both.0,
+      same-numbers drawn workers (omega (arith, long, same, count)) (λ k lt. subst Tells (let z : 0 + k ≡ k = omega arith in z) (both.1 k (omega (arith, lt, long)))),
+    )

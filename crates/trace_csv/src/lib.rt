@@ -2,7 +2,7 @@
 //!
 //! A trace is text of comma-separated numbers, a vector a record (`read_all`, `read_trace`), or a walk that
 //! is drawn (`generate`). A report has a line for each vector's reply and then a summary (`write_report`,
-//! `write_summary`); vectors have a line each (`write_vectors`).
+//! `write_summary`, and with each line's worker `write_drawn`); vectors have a line each (`write_vectors`).
 #![tactic(auto)]
 
 mod direct;
@@ -22,11 +22,11 @@ mod walk;
 mod whole_text;
 
 pub use input::{InError, read_all};
-pub use one_report::one_report_of_replies;
+pub use one_report::{one_drawn_report_of_replies, one_report_of_replies};
 pub use output::WriteFault;
 pub use read::read_trace;
 pub use refusal::TraceError;
-pub use report::{Stats, Summary, write_report, write_summary};
+pub use report::{Stats, Summary, write_drawn, write_report, write_summary};
 pub use trace::Trace;
 pub use vectors::write_vectors;
 pub use walk::generate;

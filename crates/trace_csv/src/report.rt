@@ -21,6 +21,7 @@ pub struct Summary {
     pub stats: Option<Stats>,
 }
 
+mod extras;
 mod text;
 
-pub use text::{write_report, write_summary};
+pub use text::{write_drawn, write_report, write_summary};

@@ -1,8 +1,8 @@
 //! Inputs, drawn traces and texts, with values from outside.
 
 use crate::{
-    InError, Stats, Summary, WriteFault, generate, read_all, write_report, write_summary,
-    write_vectors,
+    InError, Stats, Summary, WriteFault, generate, read_all, write_drawn, write_report,
+    write_summary, write_vectors,
 };
 use std::alloc::Global;
 use std::process::Abort;
@@ -49,6 +49,15 @@ fn reports_are_written(rt: HostRuntime) -> Result<(), Fail> {
     let mut sink = MemSink::new(alloc, 1000, Vec::new(alloc), 7)?;
     assert!(rt; write_report(&replies, &summary, &mut sink).is_ok());
     assert_eq!(rt; sink.bytes(), text.as_slice());
+    let text =
+        b"1,805306373,new,63\n2,18446744073709551615,new,0\n3,805306373,seen,4294967295\n4,,full-nodes,7\n5,,full-roots,0\nlines 5\ndistinct 2\nnodes 0\nstored 15\nraw 16\n";
+    let mut sink = MemSink::new(alloc, 1000, Vec::new(alloc), 7)?;
+    let workers = [63, 0, 4294967295, 7, 0];
+    assert!(rt; write_drawn(&replies, &workers, &summary, &mut sink).is_ok());
+    assert_eq!(rt; sink.bytes(), text.as_slice());
+    let mut sink = MemSink::new(alloc, 1000, vec![in alloc; 4u64]?, 6)?;
+    assert!(rt; write_drawn(&replies, &workers, &summary, &mut sink) == Err(WriteFault));
+    assert_eq!(rt; sink.bytes(), b"1,805306373,new,63".as_slice());
     let mut sink = MemSink::new(alloc, 1000, Vec::new(alloc), 1000)?;
     let bare = Summary {
         lines: 10,

@@ -9,7 +9,7 @@ use Rattle.tree_shape.specs.Tree.{Has}
 use Rattle.pair_rule.proofs.Lists.{has_either, has_front, has_back}
 use Rattle.block_claims.specs.Numbers.{IsRising}
 use Rattle.work_run.specs.BlockLines.{lines_of_block, lines_of_blocks}
-use Rattle.work_run.specs.Owned.{owned}
+use Rattle.tdb_base.specs.Lines.{owned}
 
 -- ---- what all members of a list are
 pub all_has : (P : ℕ → Type 0) (xs : List ℕ) (x : ℕ) → All P xs → Has x xs → P x

@@ -3,14 +3,13 @@ use Rattle.std.proofs.Common.{◌≡◌, ◌<◌, ◌≤◌, ◌/◌, ℕ, List,
 use Rattle.std.specs.Prelude.{All}
 use Rattle.std.proofs.lemmas.Nat.{mod_below}
 use Rattle.tdb_base.specs.History.{Vector}
-use Rattle.tdb_base.specs.Lines.{mine, picked}
+use Rattle.tdb_base.specs.Lines.{dealt_to, mine, owned, picked}
 use Rattle.tdb_base.proofs.PickLemmas.{mine_below}
 use Rattle.pair_rule.specs.declared.pass.PassOf.{PassOf}
 use Rattle.pair_rule.specs.Part.{Store, Part}
 use Rattle.pair_nodes.specs.Roots.{Refusals}
 use Rattle.work_run.specs.declared.worker.Worker.{Worker}
 use Rattle.work_run.specs.Dealing.{IsDealt}
-use Rattle.work_run.specs.Owned.{owned, dealt_to}
 use Rattle.work_run.specs.Ran.{HasRunOver}
 use Rattle.work_run.specs.Telling.{Telling, entries_at}
 use Rattle.work_run.specs.ToCome.{dealt_lines}

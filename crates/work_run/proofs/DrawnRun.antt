@@ -5,7 +5,7 @@ use Rattle.std.specs.Prelude.{slice_index}
 use Rattle.std.proofs.lemmas.List.{get_or-map, length-map}
 use Rattle.std.proofs.lemmas.List.Elements.{All-get_or}
 use Rattle.tdb_base.specs.History.{Vector}
-use Rattle.tdb_base.specs.Lines.{picked}
+use Rattle.tdb_base.specs.Lines.{owned, picked}
 use Rattle.tdb_base.proofs.PickLemmas.{picked_length}
 use Rattle.pair_rule.specs.declared.pass.PassOf.{PassOf}
 use Rattle.pair_rule.specs.Part.{Store, Part}
@@ -15,7 +15,6 @@ use Rattle.block_claims.specs.Drawers.{Pool}
 use Rattle.work_run.specs.declared.worker.Worker.{Worker}
 use Rattle.work_run.specs.BlockLines.{LinesDrawn, IsFreshLines, blocks_of, drawn_blocks, lines_of_blocks}
 use Rattle.work_run.specs.Drew.{AnswerTheirLines, ArePlaced, HasDrawnFrom}
-use Rattle.work_run.specs.Owned.{owned}
 use Rattle.work_run.specs.Ran.{HasRunOver}
 use Rattle.work_run.specs.Telling.{Telling, entries_at}
 use Rattle.work_run.specs.Work.{CanWork, HasTakenLines, HasWorked}

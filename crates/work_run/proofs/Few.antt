@@ -7,7 +7,7 @@ use Rattle.std.proofs.lemmas.Option.{slice_get_within}
 use Rattle.std.proofs.lemmas.List.Sums.{sum_by-cons, sum-map, count_by-le-length}
 use Rattle.tree_shape.specs.Changed.{is_changed, changed_count}
 use Rattle.tdb_base.specs.History.{Vector}
-use Rattle.tdb_base.specs.Lines.{picked}
+use Rattle.tdb_base.specs.Lines.{owned, picked}
 use Rattle.tdb_base.specs.declared.reply.Reply.{Reply}
 use Rattle.tdb_base.proofs.ListLemmas.{At, at-range}
 use Rattle.tdb_base.proofs.PickLemmas.{picked_length}
@@ -15,7 +15,6 @@ use Rattle.tdb_base.proofs.SumLemmas.{sum-by-classes, sum-ones, sum-same, count-
 use Rattle.pair_rule.specs.declared.sizes.About.{About}
 use Rattle.tree_store.specs.Vectors.{puts_after}
 use Rattle.work_run.specs.Inserted.{last_after, puts_of}
-use Rattle.work_run.specs.Owned.{owned}
 use Rattle.work_run.specs.Ran.{FewPuts, puts_of_worker}
 use Rattle.work_run.proofs.Owned.{owned_below}
 

@@ -5,7 +5,7 @@ use Rattle.std.specs.List.{range_with_len}
 use Rattle.std.proofs.lemmas.Bool.{eq-eqb, ne_eqb}
 use Rattle.std.proofs.lemmas.List.Elements.{All-cons, All-filter, All-nil, filter-append}
 use Rattle.tdb_base.proofs.ListLemmas.{At, at-filter, at-range}
-use Rattle.work_run.specs.Owned.{owned}
+use Rattle.tdb_base.specs.Lines.{owned}
 
 -- they are lines of the trace
 pub owned_below : (lines : ℕ) (owner : ℕ → ℕ) (worker : ℕ) → All (λ k. k < lines) (owned lines owner worker)

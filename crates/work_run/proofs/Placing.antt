@@ -8,9 +8,8 @@ use Rattle.std.proofs.lemmas.List.FromFn.{length-range_with_len}
 use Rattle.std.proofs.Math.Seq.{take-suc}
 use Rattle.std.specs.List.{range_with_len}
 use Rattle.std.specs.Prelude.{◌==◌}
-use Rattle.tdb_base.specs.Lines.{picked}
+use Rattle.tdb_base.specs.Lines.{owned, picked}
 use Rattle.tdb_base.proofs.PickLemmas.{picked_push}
-use Rattle.work_run.specs.Owned.{owned}
 use Rattle.work_run.proofs.Mine.{at_end, picked_front}
 use Rattle.work_run.proofs.Owned.{owned_below, owned_grows, owned_own, owned_other}
 

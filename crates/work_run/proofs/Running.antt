@@ -10,7 +10,7 @@ use Rattle.tree_shape.specs.Tree.{Has, IsPart}
 use Rattle.tdb_base.specs.Agrees.{AgreesOverAmongOthers}
 use Rattle.tdb_base.specs.History.{Vector, Entry, History, calls}
 use Rattle.tdb_base.specs.Legal.{IsLegal, Extends}
-use Rattle.tdb_base.specs.Lines.{picked}
+use Rattle.tdb_base.specs.Lines.{owned, picked}
 use Rattle.tdb_base.specs.declared.reply.Reply.{Reply}
 use Rattle.tdb_base.proofs.AgreesLemmas.{calls-some}
 use Rattle.tdb_base.proofs.ListLemmas.{at-contained}
@@ -32,7 +32,6 @@ use Rattle.work_run.specs.Workers.{after_splits, after_joins, IsSplitWorker, Are
 use Rattle.work_run.specs.Full.{IsOfOne}
 use Rattle.work_run.specs.Giving.{Giving}
 use Rattle.work_run.specs.Inserted.{puts_of, Inserted}
-use Rattle.work_run.specs.Owned.{owned}
 use Rattle.work_run.specs.Telling.{Telling, told_entries, entries_at}
 use Rattle.work_run.specs.Work.{CanWork, HasTakenLines}
 use Rattle.work_run.specs.Ran.{HasRunOver, KeepsPass, OneHistoryOver, FullAreBarred, NewNodesAreOfLines, puts_of_worker, puts_of_all}

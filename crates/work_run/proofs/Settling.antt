@@ -9,7 +9,7 @@ use Rattle.block_claims.specs.Numbers.{EachOnceBelow, IsRising}
 use Rattle.work_run.specs.declared.worker.Worker.{Worker}
 use Rattle.work_run.specs.BlockLines.{LinesDrawn, block_count, blocks_of, lines_of_blocks}
 use Rattle.work_run.specs.Drew.{AnswerTheirLines, AreDrawnBy, AreMarked, HasDrawnFrom, IsDrawnTrace, OwnTheirLines}
-use Rattle.work_run.specs.Owned.{owned}
+use Rattle.tdb_base.specs.Lines.{owned}
 use Rattle.work_run.proofs.DrawingLines.{blocks_cover}
 use Rattle.work_run.proofs.Elements.{placed}
 use Rattle.work_run.proofs.WhoDrew.{alike_at, drawn_by, own_lines}

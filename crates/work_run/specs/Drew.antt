@@ -3,7 +3,7 @@ use Rattle.std.specs.Prelude.{◌≡◌, ◌+◌, ◌<◌, ◌≤◌, ◌/◌, �
 use Rattle.tree_shape.specs.Tree.{Has}
 use Rattle.tdb_base.specs.Agrees.{entries_of_insertion}
 use Rattle.tdb_base.specs.History.{Vector}
-use Rattle.tdb_base.specs.Lines.{picked}
+use Rattle.tdb_base.specs.Lines.{owned, picked}
 use Rattle.tdb_base.specs.declared.reply.Reply.{Reply}
 use Rattle.pair_rule.specs.declared.sizes.About.{About}
 use Rattle.pair_rule.specs.declared.pass.PassOf.{PassOf}
@@ -11,7 +11,6 @@ use Rattle.pair_rule.specs.Part.{Part}
 use Rattle.block_claims.specs.Drawers.{Pool, Drawing, IsNew}
 use Rattle.work_run.specs.declared.worker.Worker.{Worker}
 use Rattle.work_run.specs.BlockLines.{LinesDrawn, HasDrawnAll, block_count, blocks_of, lines_of_blocks}
-use Rattle.work_run.specs.Owned.{owned}
 use Rattle.work_run.specs.Ran.{HasRunOver}
 
 -- a list of the workers that drew a trace's lines: one a line, of so many, and one for all lines of a block

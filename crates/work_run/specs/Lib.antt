@@ -1,4 +1,3 @@
-pub mod Owned
 pub mod Dealing
 pub mod Giving
 pub mod ToCome

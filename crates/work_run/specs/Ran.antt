@@ -6,7 +6,7 @@ use Rattle.std.specs.List.{range_with_len}
 use Rattle.tree_shape.specs.Tree.{Has, IsPart}
 use Rattle.tdb_base.specs.Agrees.{AgreesOverAmongOthers, AgreesOver, entries_of_insertion}
 use Rattle.tdb_base.specs.History.{Vector, History, calls}
-use Rattle.tdb_base.specs.Lines.{mine, picked}
+use Rattle.tdb_base.specs.Lines.{AreShared, mine, owned, picked}
 use Rattle.tdb_base.specs.declared.reply.Reply.{Reply}
 use Rattle.pair_rule.specs.declared.view.View.{View}
 use Rattle.pair_rule.specs.declared.sizes.About.{About}
@@ -15,7 +15,6 @@ use Rattle.pair_rule.specs.Rest.{Whole, view}
 use Rattle.pair_rule.specs.Part.{Part, root_pairs}
 use Rattle.work_run.specs.Full.{Barred, IsOfOne}
 use Rattle.work_run.specs.Inserted.{puts_of}
-use Rattle.work_run.specs.Owned.{owned}
 
 -- Which lines each worker had, and which entries a line has, are what ways of running differ in.
 module _ (lines_of : ℕ → List ℕ) (line_entries : ℕ → ℕ → History) where
@@ -98,5 +97,5 @@ HasRun part about trace replies workers block old new =
 abbrev pub FewPuts : Type 0
 FewPuts =
     (about : About) (trace : List Vector) (replies : List Reply) (owner : ℕ → ℕ) (workers : ℕ)
-    → ((i : ℕ) → i < length trace → owner i < workers)
+    → AreShared (length trace) workers owner
     → puts_of_all about trace replies (owned (length trace) owner) workers ≤ (about.slots - 2) * length trace

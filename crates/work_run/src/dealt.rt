@@ -1,7 +1,6 @@
 //! How the lines of a trace come to its workers.
 ghost use Rattle.std.specs.Prelude.{◌≡◌, ℕ, ◌+◌, ◌<◌, ◌≤◌, ◌^◌};
-ghost use Rattle.tdb_base.specs.Lines.{mine};
-ghost use Rattle.work_run.specs.Owned.{dealt_to};
+ghost use Rattle.tdb_base.specs.Lines.{dealt_to, mine};
 
 use crate::lines::count_of;
 use crate::supply::Supply;
@@ -90,7 +89,7 @@ impl Dealing for Dealt {
 
 impl Owners for Dealt {
     ghost use Rattle.work_run.specs.Dealing.{IsDealt};
-    ghost use Rattle.work_run.specs.Owned.{dealt_to};
+    ghost use Rattle.tdb_base.specs.Lines.{dealt_to};
 
     ghost owner = { λ d. dealt_to d.workers d.block };
 

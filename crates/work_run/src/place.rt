@@ -1,7 +1,6 @@
 //! The answers of all workers in the order of the lines.
 ghost use Rattle.std.specs.Prelude.{◌≡◌, ℕ, ◌<◌, ◌≤◌, [], length, slice_index_or, vec_capacity};
-ghost use Rattle.tdb_base.specs.Lines.{picked};
-ghost use Rattle.work_run.specs.Owned.{owned};
+ghost use Rattle.tdb_base.specs.Lines.{owned, picked};
 
 use crate::dealt::Owners;
 use crate::worker::Worker;

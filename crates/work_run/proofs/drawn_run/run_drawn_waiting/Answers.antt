@@ -4,7 +4,7 @@ use Rattle.region_root.specs.Compact.{compact}
 use Rattle.region_root.specs.Refused.{compact_refusals}
 use Rattle.block_claims.specs.declared.share.Totals.{Totals}
 use Rattle.work_run.specs.Drew.{AreDrawnBy, ArePlaced, IsDrawnTrace}
-use Rattle.work_run.specs.Owned.{owned}
+use Rattle.tdb_base.specs.Lines.{owned}
 use Rattle.work_run.specs.Rooms.{IsRoomFor}
 use Rattle.work_run.specs.BlockLines.{block_count}
 use Rattle.work_run.specs.Telling.{insertion}

@@ -3,9 +3,8 @@ use Rattle.std.specs.Prelude.{slice_set, take}
 use Rattle.std.proofs.lemmas.Bool.{cases_eq}
 use Rattle.std.proofs.lemmas.List.{get_or-replicate, get_or_default, length-set}
 use Rattle.std.proofs.Math.Seq.{take-length}
-use Rattle.tdb_base.specs.Lines.{picked}
+use Rattle.tdb_base.specs.Lines.{owned, picked}
 use Rattle.work_run.specs.declared.worker.Worker.{Worker}
-use Rattle.work_run.specs.Owned.{owned}
 use Rattle.work_run.proofs.Placing.{owned_left, owned_few, counted_more, placed_own, placed_other}
 use Rattle.work_run.proofs.place.place.Goals as goal
 

@@ -1,7 +1,6 @@
 use Rattle.std.specs.Prelude.{◌≡◌, ◌<◌, ◌≤◌, ℕ, length, slice_index_or, take, vec_capacity}
-use Rattle.tdb_base.specs.Lines.{picked}
+use Rattle.tdb_base.specs.Lines.{owned, picked}
 use Rattle.work_run.specs.declared.worker.Worker.{Worker}
-use Rattle.work_run.specs.Owned.{owned}
 use Rattle.work_run.proofs.place.place.Given as goal
 
 abbrev pub invariant-loop-i : goal.invariant-loop-i
