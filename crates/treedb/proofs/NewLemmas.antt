@@ -4,10 +4,10 @@ use Rattle.std.proofs.lemmas.Option.{slice_get-get_or, slice_get_within}
 use Rattle.std.proofs.lemmas.List.Kept.{AllPairs-cons}
 use Rattle.std.specs.Prelude.{◌&&◌, ◌↔◌, All, Contains, IfSome, map, filter, get_or, slice_get, count_by, is_some, if◌then◌else◌}
 use Rattle.std.specs.List.{AllPairs, cons_option, list_any, zip}
-use Rattle.tdb_base.specs.Agrees.{Agrees, AgreesAmongOthers}
+use Rattle.tdb_base.specs.Agrees.{AgreesOwned, AgreesOwnedAmongOthers}
 use Rattle.tdb_base.specs.History.{Vector, Entry, History, is_fresh, name_of, same}
 use Rattle.tdb_base.specs.Legal.{IsLegal}
-use Rattle.tdb_base.specs.Lines.{named}
+use Rattle.tdb_base.specs.Lines.{AreShared, named}
 use Rattle.tdb_base.specs.Replies.{id_of, is_full, is_new}
 use Rattle.tdb_base.specs.declared.reply.Reply.{Reply}
 use Rattle.tdb_base.specs.declared.reply.Reply.TheVariants as r
@@ -154,8 +154,8 @@ named-is count h legal v = (there, back)
         let found = count-some (λ (w : Vector). same given.entry.vector w) (named h) (omega (arith, once)) in
         contained-at (named h) v (subst (λ (w : Vector). At (named h) w) (sym (same-equal given.entry.vector found.0 found.2) ∙ given.vector) found.1)
 
-module _ (count : ℕ) (trace : List Vector) (replies : List Reply) (workers block : ℕ) (h : History) (callers : List ℕ)
-    (agrees : Agrees count trace replies workers block [] h callers) (some : 0 < workers) where
+module _ (count : ℕ) (owner : ℕ → ℕ) (trace : List Vector) (replies : List Reply) (workers : ℕ) (h : History) (callers : List ℕ)
+    (agrees : AgreesOwned count owner trace replies workers [] h callers) (shared : AreShared (length trace) workers owner) where
   -- each named vector is that of one line that is new
   once : (u : Vector) → count_by (λ v. same v u) (news trace replies) ≡ (if is_some (name_of h u) then 1 else 0)
   once u =
@@ -163,7 +163,7 @@ module _ (count : ℕ) (trace : List Vector) (replies : List Reply) (workers blo
       ∙ count-filter (λ (line : Vector × Reply). is_new line.1) (λ (line : Vector × Reply). same line.0 u) (zip trace replies)
       ∙ sym (sum-same (line_weight (λ v fresh. cond (fresh && same v u) 1 0)) (λ (line : Vector × Reply). cond (is_new line.1 && same line.0 u) 1 0) (zip trace replies)
       (λ line k. this-weight u line.0 line.1))
-      ∙ sym (tally count trace replies workers block h callers (λ v fresh. cond (fresh && same v u) 1 0) agrees some)
+      ∙ sym (tally count owner trace replies workers h callers (λ v fresh. cond (fresh && same v u) 1 0) agrees shared)
       ∙ gives-once count u h agrees.among.legal
 
   pub news-differ : AllPairs (λ u v. u ≢ v) (news trace replies)
@@ -210,14 +210,14 @@ module _ (count : ℕ) (trace : List Vector) (replies : List Reply) (workers blo
           let reply = at-within replies at.0 within in
           let given = gives-id reply.0 (none-full replies at.0 reply.0 none reply.1) in
           (named-is count h agrees.among.legal v).1
-          (given.0, line-named count trace replies workers block [] h callers agrees.among some at.0 v reply.0 given.0 at.1 reply.1 given.1)
+          (given.0, line-named count owner trace replies workers [] h callers agrees.among shared at.0 v reply.0 given.0 at.1 reply.1 given.1)
 
   -- what has the identifiers of the new lines as names is the new lines
   pub read-news : (read : List Vector) → map (name_of h) read ≡ map Some (new_ids replies) → read ≡ news trace replies
   read-news read names =
       named-alike count h agrees.among.legal read (news trace replies) (new_ids replies) names
       (news-names h trace replies agrees.among.one_each
-      (λ i v id at reply. line-named count trace replies workers block [] h callers agrees.among some i v (r.New id) id at reply refl))
+      (λ i v id at reply. line-named count owner trace replies workers [] h callers agrees.among shared i v (r.New id) id at reply refl))
 
   -- what was read back by the new identifiers is the named vectors in rising order
   pub read-back : (back : ReadBack) → IsReadBy h (new_ids replies) back → IsReadBack h back
@@ -236,12 +236,12 @@ module _ (count : ℕ) (trace : List Vector) (replies : List Reply) (workers blo
       }
 
 -- each identifier of a reply that is new names a vector
-pub new-named : (count : ℕ) (trace : List Vector) (replies : List Reply) (workers block : ℕ) (earlier h : History) (callers : List ℕ)
-    → AgreesAmongOthers count trace replies workers block earlier h callers → 0 < workers
+pub new-named : (count : ℕ) (owner : ℕ → ℕ) (trace : List Vector) (replies : List Reply) (workers : ℕ) (earlier h : History) (callers : List ℕ)
+    → AgreesOwnedAmongOthers count owner trace replies workers earlier h callers → AreShared (length trace) workers owner
     → All (λ reply. IfSome (new_id reply) (λ id. (v : Vector) × (name_of h v ≡ Some id))) replies
-new-named count trace replies workers block earlier h callers agrees some k d lt =
+new-named count owner trace replies workers earlier h callers agrees shared k d lt =
     let line = at-within trace k (let same = agrees.one_each in omega (arith, lt, same)) in
-    by (get_or replies k d) (λ id is. (line.0, line-named count trace replies workers block earlier h callers agrees some k line.0 (r.New id) id line.1 (slice_get-get_or replies k d lt ∙ ap Some is) refl))
+    by (get_or replies k d) (λ id is. (line.0, line-named count owner trace replies workers earlier h callers agrees shared k line.0 (r.New id) id line.1 (slice_get-get_or replies k d lt ∙ ap Some is) refl))
   where
     by : (reply : Reply) → ((id : ℕ) → reply ≡ r.New id → (v : Vector) × (name_of h v ≡ Some id)) → IfSome (new_id reply) (λ id. (v : Vector) × (name_of h v ≡ Some id))
     by (r.New id) name = name id refl
