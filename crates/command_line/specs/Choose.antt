@@ -84,7 +84,7 @@ abbrev pub workers_of : Values → Option WorkerWords
 workers_of values =
     given (given (values (codes "workers")) (number_in 1 64)) (λ workers.
     given (given (values (codes "block")) (number_in 1 65536)) (λ block.
-    Some (record { workers = workers; block = block })))
+    Some (record { workers = workers; block = block; claims = is_given (values (codes "claims")) })))
 
 abbrev pub tables_of : Values → Option TableWords
 tables_of values =
@@ -109,6 +109,7 @@ choice_with task workers tables bench = record {
   profile = task.profile;
   workers = workers.workers;
   block = workers.block;
+  claims = workers.claims;
   nodes = tables.nodes;
   roots = tables.roots;
   region = tables.region;

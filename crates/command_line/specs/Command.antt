@@ -40,6 +40,7 @@ abbrev pub worker_words : List Rule
 worker_words =
     number_option (codes "workers") 1 64 (codes "1")
     ∷ number_option (codes "block") 1 65536 (codes "64")
+    ∷ flag_rule (codes "claims")
     ∷ []
 
 -- the tables, and how far a path goes in them

@@ -78,7 +78,8 @@ fn with_worker_words<'a>(alloc: Global, command: Command<'a>) -> Result<Command<
 {
     let workers = command.arg(number_option(alloc, "workers", 1, 64, "1"))?;
     let block = workers.arg(number_option(alloc, "block", 1, 65536, "64"))?;
-    Ok(block)
+    let claims = block.arg(flag(alloc, "claims"))?;
+    Ok(claims)
 }
 
 fn with_table_words<'a>(alloc: Global, command: Command<'a>) -> Result<Command<'a>, AllocError>

@@ -1,4 +1,4 @@
-//! The words of the command line: one simple command of `clap`, its fourteen values and its four further
+//! The words of the command line: one simple command of `clap`, its fifteen values and its four further
 //! rules.
 #![tactic(auto)]
 

@@ -1,8 +1,8 @@
 //! What the words choose.
 
-/// The usage text, three lines that each end in LF.
+/// The usage text, four lines that each end in LF.
 pub const USAGE: &str =
-    "usage: treedb insert|distinct|bench|check [--mode plain|compact] [--profile 16|28|31]\n  [--workers N] [--block N] [--nodes D] [--roots R] [--region S] [--probe P]\n  [--stats] [--lines N] [--slots K] [--values M] [--seed S]\n";
+    "usage: treedb insert|distinct|bench|check [--mode plain|compact] [--profile 16|28|31]\n  [--workers N] [--block N] [--nodes D] [--roots R] [--region S] [--probe P]\n  [--stats] [--lines N] [--slots K] [--values M] [--seed S]\n  [--claims]\n";
 
 /// What the program does.
 #[derive(Clone, Copy, Debug, PartialEq, Eq)]
@@ -39,6 +39,9 @@ pub struct Choice {
     pub workers: u64,
     /// How many lines a worker takes at a time: 1 to 65536, by default 64.
     pub block: u64,
+    /// Whether each worker draws its next block when it is through with the last, by default not: blocks are
+    /// then dealt out in turn. It has an effect for `insert` and `bench`.
+    pub claims: bool,
     /// The node table has two to this power buckets: 3 to 25 and at most `profile`, if given.
     pub nodes: Option<u32>,
     /// The root table has two to this power places: 3 to 24, if given, and in compact mode at least 6.

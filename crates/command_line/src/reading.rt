@@ -25,6 +25,7 @@ pub struct TaskWords {
 pub struct WorkerWords {
     pub workers: u64,
     pub block: u64,
+    pub claims: bool,
 }
 
 /// The tables, and how far a path goes in them.
@@ -168,7 +169,12 @@ fn workers(matches: &ArgMatches) -> Option<WorkerWords>
 {
     let workers = number(matches, "workers", 1, 64)?;
     let block = number(matches, "block", 1, 65536)?;
-    Some(WorkerWords { workers, block })
+    let claims = is_given(matches, "claims");
+    Some(WorkerWords {
+        workers,
+        block,
+        claims,
+    })
 }
 
 fn tables(matches: &ArgMatches) -> Option<TableWords>
@@ -224,6 +230,7 @@ pub fn choice(matches: &ArgMatches) -> Option<Choice>
         profile: task.profile,
         workers: workers.workers,
         block: workers.block,
+        claims: workers.claims,
         nodes: tables.nodes,
         roots: tables.roots,
         region: tables.region,

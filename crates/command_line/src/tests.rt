@@ -10,9 +10,9 @@ use std::test::Fail;
 // The names of a choice's values, and those that `insert` alone chooses: a word by its place among the words
 // that stand there, from 0, and a size that isn't given as 0.
 const NAMES: &str =
-    "job mode profile workers block nodes roots region probe stats lines slots values seed";
+    "job mode profile workers block claims nodes roots region probe stats lines slots values seed";
 
-const DEFAULTS: [u64; 14] = [0, 0, 28, 1, 64, 0, 0, 0, 4194304, 0, 1000, 8, 4, 1];
+const DEFAULTS: [u64; 15] = [0, 0, 28, 1, 64, 0, 0, 0, 0, 4194304, 0, 1000, 8, 4, 1];
 
 // The words that the text has between bars, with the program's name; none where it is empty.
 fn words_of(alloc: Global, text: &str) -> Result<Vec<String>, AllocError> {
@@ -45,10 +45,10 @@ fn value_of(text: &str) -> Result<u64, Fail> {
 }
 
 // The values with one of them changed.
-fn changed(values: [u64; 14], name: &str, value: u64) -> Result<[u64; 14], Fail> {
+fn changed(values: [u64; 15], name: &str, value: u64) -> Result<[u64; 15], Fail> {
     let mut values = values;
     for (i, other) in NAMES.split(' ').enumerate() {
-        if i < 14 && other == name {
+        if i < 15 && other == name {
             values[i] = value;
             return Ok(values);
         }
@@ -57,7 +57,7 @@ fn changed(values: [u64; 14], name: &str, value: u64) -> Result<[u64; 14], Fail>
 }
 
 // The defaults with the values changed that the text lists, as `mode compact`, between commas.
-fn expected(text: &str) -> Result<[u64; 14], Fail> {
+fn expected(text: &str) -> Result<[u64; 15], Fail> {
     let mut values = DEFAULTS;
     for change in text.split(',') {
         if let Some((name, value)) = change.split_once(' ') {
@@ -84,13 +84,14 @@ fn size_of(size: Option<u32>) -> u64 {
 }
 
 // The values of a choice, in the order of their names.
-fn values_of(choice: &Choice) -> [u64; 14] {
+fn values_of(choice: &Choice) -> [u64; 15] {
     [
         job_of(choice),
         u64::from(choice.mode == Mode::Compact),
         choice.profile as u64,
         choice.workers,
         choice.block,
+        u64::from(choice.claims),
         size_of(choice.nodes),
         size_of(choice.roots),
         size_of(choice.region),
@@ -139,6 +140,10 @@ treedb|insert|--mode|compact|--roots|7|--region|7 => mode compact,roots 7,region
 treedb|insert|--probe|1 => probe 1
 treedb|insert|--probe|4194304 => nothing
 treedb|insert|--stats => stats on
+treedb|insert|--claims => claims on
+treedb|--claims|bench|--workers|4|--block|1024 => job bench,claims on,workers 4,block 1024
+treedb|distinct|--claims => job distinct,claims on
+treedb|check|--mode|compact|--claims => job check,mode compact,claims on
 treedb|distinct|--stats => job distinct,stats on
 treedb|bench|--lines|1 => job bench,lines 1
 treedb|bench|--lines|4194304 => job bench,lines 4194304
@@ -232,6 +237,10 @@ treedb|insert|--probe|0
 treedb|insert|--probe|4194305
 treedb|insert|--stats=true
 treedb|insert|--stats|--stats
+treedb|insert|--claim
+treedb|insert|--claims=true
+treedb|insert|--claims|on
+treedb|insert|--claims|--claims
 treedb|bench|--lines|0
 treedb|bench|--lines|4194305
 treedb|bench|--lines|65536|--slots|1024
@@ -297,6 +306,7 @@ const TOLD: &str = "\
 usage: treedb insert|distinct|bench|check [--mode plain|compact] [--profile 16|28|31]
   [--workers N] [--block N] [--nodes D] [--roots R] [--region S] [--probe P]
   [--stats] [--lines N] [--slots K] [--values M] [--seed S]
+  [--claims]
 ";
 
 #[test]

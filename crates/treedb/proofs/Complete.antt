@@ -1,10 +1,8 @@
 -- Completeness: a run of a valid input in which nothing failed wrote its text, or ran out of memory.
-use Rattle.std.proofs.Common.{◌≡◌, ◌≤◌, ◌<◌, ◌++◌, ◌∙◌, ℕ, List, length, true, Option, Some, None, refl, sym, ap, subst, inl, inr, arith, take, length-append}
-use Rattle.std.specs.Prelude.{◌⊎◌, IfSome, Ok, drop, if◌then◌else◌}
+use Rattle.std.proofs.Common.{◌≡◌, ◌≤◌, ◌∙◌, ℕ, List, length, true, Option, Some, None, refl, sym, ap, subst, inl, inr, arith, take, length-append}
+use Rattle.std.specs.Prelude.{◌⊎◌, IfSome}
 use Rattle.std.specs.Io.KnownBytes.{Consumes}
 use Rattle.tdb_base.specs.Causes.{Rose}
-use Rattle.tdb_base.specs.History.{Vector}
-use Rattle.tdb_base.specs.declared.reply.Reply.{Reply}
 use Rattle.tdb_base.specs.declared.reply.Status.{Status}
 use Rattle.tdb_base.specs.declared.reply.Status.TheVariants as s
 use Rattle.trace_csv.specs.Input.{limit}
@@ -13,10 +11,9 @@ use Rattle.run_check.proofs.Verdicts.{least-same}
 use Rattle.command_line.specs.declared.outcome.Job.{Job}
 use Rattle.command_line.specs.declared.outcome.Job.TheVariants.{Insert, Distinct, Bench, Check}
 use Rattle.command_line.specs.declared.outcome.Choice.{Choice}
-use Rattle.treedb.specs.Check.{IsInput}
 use Rattle.treedb.specs.Lines.{HasNoTrace, IsTraceText, read_lines}
 use Rattle.treedb.specs.Outcome.{HasNoReport, IsComplete, IsValidInput, Outcome, SinkStep, SourceStep}
-use Rattle.treedb.specs.Run.{GivesWithin, is_printed}
+use Rattle.treedb.specs.Run.{is_printed}
 use Rattle.treedb.proofs.LineLemmas.{lines_read}
 
 -- what a source gave is no more than it told

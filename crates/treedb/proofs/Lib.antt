@@ -1,4 +1,5 @@
 pub mod LineLemmas
+pub mod SharingLemmas
 pub mod ReadingLemmas
 pub mod RunLemmas
 pub mod NewLemmas

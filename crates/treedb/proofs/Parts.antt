@@ -1,22 +1,18 @@
 -- The root table of each mode takes the sizes that its choices have.
 use Rattle.std.proofs.Common.{◌≡◌, ℕ, ⊎_elim, sym, subst, ap, ◌∙◌}
-use Rattle.std.specs.Prelude.{◌⊎◌, List, Option}
-use Rattle.tdb_base.specs.History.{Vector, History}
-use Rattle.tdb_base.specs.declared.reply.Reply.{Reply}
+use Rattle.std.specs.Prelude.{◌⊎◌}
 use Rattle.pair_rule.specs.Part.{Part}
 use Rattle.pair_rule.specs.declared.sizes.Sizes.{Sizes}
 use Rattle.root_plain.specs.Plain.{plain}
 use Rattle.region_root.specs.Compact.{compact}
 use Rattle.region_root.specs.Layout.{CellsFit, RegionFits}
 use Rattle.tree_store.specs.Ranges.{NodesFit, ProbeFits, IsFirstOut}
-use Rattle.trace_csv.specs.declared.report.Stats.{Stats}
 use Rattle.command_line.specs.declared.outcome.Choice.{Choice}
 use Rattle.command_line.specs.declared.outcome.Mode.{Mode}
 use Rattle.command_line.specs.declared.outcome.Mode.TheVariants.{Plain, Compact}
 use Rattle.treedb.specs.Chosen.{flag_count}
-use Rattle.treedb.specs.Filling.{FitMode, IsPartFor}
+use Rattle.treedb.specs.Filling.{IsPartFor}
 use Rattle.treedb.specs.Run.{IsOfMode}
-use Rattle.treedb.specs.Stored.{InStore}
 
 -- sizes that all fit have no first one out of its range
 none_out : {T : Type 0} (part : Part T) (width : ℕ) (sizes : Sizes) → NodesFit width sizes → ((n : ℕ) → part.is_out sizes n → ⊥) → ProbeFits sizes

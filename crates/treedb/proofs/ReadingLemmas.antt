@@ -1,5 +1,5 @@
 -- An input that was read, and what is made of its bytes.
-use Rattle.std.proofs.Common.{◌≡◌, ◌<◌, ℕ, List, [], Option, Some, None, subst, sym, ap, arith}
+use Rattle.std.proofs.Common.{◌≡◌, ◌<◌, ℕ, List, [], Option, Some, None, subst, sym, arith}
 use Rattle.std.specs.Prelude.{IfErr, IfOk, IfSome, Result, Ok, Err}
 use Rattle.run_check.specs.Cut.{IsWhole}
 use Rattle.run_check.specs.declared.verdict.Verdict.{Verdict}

@@ -3,26 +3,27 @@ use Rattle.std.proofs.Common.{ℕ, List, [], Option, length, subst}
 use Rattle.std.specs.List.{range_with_len}
 use Rattle.tdb_base.specs.Headline.{CountsDistinct, CountsNames, DifferentLinesDifferentIds, EachNewOnce, EqualLinesEqualIds}
 use Rattle.tdb_base.specs.Legal.{KeepsNames}
-use Rattle.tdb_base.specs.Lines.{AreShared, dealt_to}
+use Rattle.tdb_base.specs.Lines.{AreShared}
 use Rattle.tdb_base.proofs.HeadlineLemmas.{counts-distinct, counts-names, different-lines, each-new-once, equal-lines}
 use Rattle.tdb_base.proofs.NameLemmas.{keeps-names}
-use Rattle.tdb_base.proofs.TallyLemmas.{dealt-shared}
 use Rattle.command_line.specs.declared.outcome.Choice.{Choice}
 use Rattle.treedb.specs.Chosen.{flag_count}
+use Rattle.treedb.specs.Sharing.{owner_of}
 use Rattle.command_line.specs.declared.outcome.Job.{Job}
 use Rattle.command_line.specs.declared.outcome.Job.TheVariants.{Distinct}
 use Rattle.treedb.specs.Run.{Headline, IsText, IsTextOf, PrintsTheLines, Run}
 use Rattle.treedb.proofs.NewLemmas.{trace-named}
+use Rattle.treedb.proofs.SharingLemmas.{shared-out}
 
 module _ (offer : Option Choice) (told : Option (List ℕ)) (run : Run offer told) where
-  abbrev workers : List ℕ
-  workers = range_with_len 0 run.choice.workers
-
   abbrev owner : ℕ → ℕ
-  owner = dealt_to run.choice.workers run.choice.block
+  owner = owner_of run.choice run.drawn
 
   shared : AreShared (length run.trace) run.choice.workers owner
-  shared = dealt-shared (length run.trace) run.choice.workers run.choice.block run.some
+  shared = shared-out run.choice (length run.trace) run.drawn run.some run.shared
+
+  abbrev workers : List ℕ
+  workers = range_with_len 0 run.choice.workers
 
   run_equal : EqualLinesEqualIds run.trace run.replies
   run_equal = equal-lines (flag_count run.choice.profile) owner run.trace run.replies run.choice.workers [] run.history workers run.agrees.among shared
@@ -44,7 +45,7 @@ module _ (offer : Option Choice) (told : Option (List ℕ)) (run : Run offer tol
 
   run_lines : (text : List ℕ) → IsTextOf run text → PrintsTheLines run text
   run_lines text is_text job none =
-      let printed : IsText Distinct run.replies run.history run.stats text = subst (λ (j : Job). IsText j run.replies run.history run.stats text) job is_text in
+      let printed : IsText Distinct run.replies run.drawn run.history run.stats text = subst (λ (j : Job). IsText j run.replies run.drawn run.history run.stats text) job is_text in
       let same = trace-named (flag_count run.choice.profile) owner run.trace run.replies run.choice.workers run.history workers run.agrees shared none in
       record {
         sorted = printed.sorted;

@@ -1,9 +1,9 @@
 -- From what a run of workers leaves of a store to the replies of one history, with workers numbered from 0.
-use Rattle.std.proofs.Common.{◌≡◌, ℕ, suc, ◌+◌, ◌*◌, ◌-◌, ◌/◌, ◌<◌, ◌≤◌, List, [], ◌∷◌, length, Bool, true, false, Option, Some, None, refl, sym, ap, ◌∙◌, subst, ⊎_elim, arith}
+use Rattle.std.proofs.Common.{◌≡◌, ℕ, suc, ◌+◌, ◌*◌, ◌-◌, ◌<◌, ◌≤◌, List, [], ◌∷◌, length, Bool, true, false, Option, Some, None, refl, sym, ap, ◌∙◌, subst, ⊎_elim, arith}
 use Rattle.std.specs.Prelude.{All, IfSome, slice_get, count_by}
 use Rattle.std.specs.List.{list_any, range_with_len}
 use Rattle.tree_shape.specs.Tree.{Has}
-use Rattle.tdb_base.specs.Agrees.{Agrees}
+use Rattle.tdb_base.specs.Agrees.{AgreesOwned}
 use Rattle.tdb_base.specs.History.{Vector, History, name_of}
 use Rattle.tdb_base.specs.Renamed.{renamed, position_of}
 use Rattle.tdb_base.specs.Replies.{is_new, is_full, id_of}
@@ -14,25 +14,27 @@ use Rattle.tdb_base.proofs.ListLemmas.{at-within}
 use Rattle.tdb_base.proofs.RenameLemmas.{agrees_renamed, legal-renamed, name-renamed}
 use Rattle.std.proofs.lemmas.Option.{slice_get_within}
 use Rattle.tdb_base.proofs.DistinctLemmas.{count-named}
-use Rattle.tdb_base.proofs.TallyLemmas.{dealt-shared}
 use Rattle.tree_store.proofs.Census.{names_all}
 use Rattle.pair_rule.specs.declared.view.View.{View}
 use Rattle.pair_rule.specs.declared.sizes.About.{About}
 use Rattle.pair_rule.specs.declared.pass.PassOf.{PassOf}
 use Rattle.pair_rule.specs.Part.{Part, Store, root_pairs}
-use Rattle.pair_rule.specs.Rest.{AtRest, HasAll, Housed, Whole, names_of_callers, view}
+use Rattle.pair_rule.specs.Rest.{AtRest, HasAll, Housed, names_of_callers, view}
 use Rattle.work_run.specs.Full.{AreOfVectors, IsOfOne}
-use Rattle.tdb_base.specs.Lines.{AreShared, dealt_to}
+use Rattle.tdb_base.specs.Lines.{AreShared}
 use Rattle.work_run.proofs.Few.{few_puts}
 use Rattle.trace_csv.specs.declared.report.Stats.{Stats}
 use Rattle.command_line.specs.declared.outcome.Choice.{Choice}
 use Rattle.treedb.specs.Answered.{CountsOf}
 use Rattle.treedb.specs.Filling.{AreInserted}
 use Rattle.treedb.specs.Chosen.{flag_count}
+use Rattle.treedb.specs.Sharing.{drawn_of, owner_of}
 use Rattle.treedb.specs.ReadBack.{IsReadBack, IsReadBy, new_id, new_ids}
 use Rattle.treedb.specs.Stored.{Counts, AreTold, NodesAreNamed, InStore}
 use Rattle.treedb.specs.declared.distinct.ReadBack.{ReadBack}
+use Rattle.treedb.specs.declared.insertion.Inserted.{Inserted}
 use Rattle.treedb.proofs.NewLemmas.{new-named, read-back, read-renamed}
+use Rattle.treedb.proofs.SharingLemmas.{shared-out}
 
 -- the same nodes and roots house a history whose callers have other numbers
 housed_renamed : (about : About) (house : List (ℕ × ℕ) → Type 0) (nodes roots : List (ℕ × ℕ)) (f : ℕ → ℕ) (h : History) → Housed about house nodes roots h → Housed about house nodes roots (renamed f h)
@@ -69,49 +71,53 @@ named_by (r.Seen id) e = (id, refl)
 named_by r.FullNodes e = cc e
 named_by r.FullRoots e = cc e
 
-module _ {T : Type 0} (part : Part T) (c : Choice) (trace : List Vector) (replies : List Reply) (store : Store) (last : PassOf T)
-    (some : 0 < c.workers) (inserted : AreInserted part c trace replies store last) (rests : AtRest part store last) where
-  abbrev owner : ℕ → ℕ
-  owner = dealt_to c.workers c.block
-
-  shared : AreShared (length trace) c.workers owner
-  shared = dealt-shared (length trace) c.workers c.block some
+module _ {T : Type 0} (part : Part T) (c : Choice) (trace : List Vector) (made : Inserted) (store : Store) (last : PassOf T)
+    (some : 0 < c.workers) (inserted : AreInserted part c trace made store last) (rests : AtRest part store last) where
+  abbrev replies : List Reply
+  replies = made.replies.items
 
   abbrev pub history : History
-  history = renamed (position_of inserted.ran.one_history.0) (view last).seen
+  history = renamed (position_of inserted.done.ran.one_history.0) (view last).seen
+
+  abbrev owner : ℕ → ℕ
+  owner = owner_of c (drawn_of made)
+
+  -- each line is some worker's
+  shared : AreShared (length trace) c.workers owner
+  shared = shared-out c (length trace) (drawn_of made) some inserted.done.shared
 
   -- the pass stands for the whole store
   all : HasAll part (view last).about (view last)
-  all = rests.seat.sound.whole (inserted.ran.whole inserted.whole)
+  all = rests.seat.sound.whole (inserted.done.ran.whole inserted.whole)
 
-  pub own_agrees : Agrees (flag_count c.profile) trace replies c.workers c.block [] (view last).seen inserted.ran.one_history.0
+  pub own_agrees : AgreesOwned (flag_count c.profile) owner trace replies c.workers [] (view last).seen inserted.done.ran.one_history.0
   own_agrees =
       let none_seen : (view inserted.first).seen ≡ [] = ap (λ (v : View T). v.seen) inserted.begins in
-      subst (λ (n : ℕ). Agrees n trace replies c.workers c.block [] (view last).seen inserted.ran.one_history.0) inserted.about_is.flags
-      (subst (λ (h : History). Agrees store.about.flags trace replies c.workers c.block h (view last).seen inserted.ran.one_history.0) none_seen (inserted.ran.one_history.1.alone inserted.whole))
+      subst (λ (n : ℕ). AgreesOwned n owner trace replies c.workers [] (view last).seen inserted.done.ran.one_history.0) inserted.about_is.flags
+      (subst (λ (h : History). AgreesOwned store.about.flags owner trace replies c.workers h (view last).seen inserted.done.ran.one_history.0) none_seen (inserted.done.ran.one_history.1.alone inserted.whole))
 
-  pub agrees_run : Agrees (flag_count c.profile) trace replies c.workers c.block [] history (range_with_len 0 c.workers)
-  agrees_run = agrees_renamed (flag_count c.profile) owner trace replies c.workers (view last).seen inserted.ran.one_history.0 own_agrees
+  pub agrees_run : AgreesOwned (flag_count c.profile) owner trace replies c.workers [] history (range_with_len 0 c.workers)
+  agrees_run = agrees_renamed (flag_count c.profile) owner trace replies c.workers (view last).seen inserted.done.ran.one_history.0 own_agrees
 
   filled_run : AreOfVectors store.about (view last).known trace
   filled_run index pair h = ⊎_elim
       (λ (old : (other : ℕ) × Has (index, other) (view inserted.first).known). absurd (subst (λ (v : View T). Has (index, old.0) v.known) inserted.begins old.1))
       (λ (of : IsOfOne store.about (view last).known trace index). of)
-      (inserted.ran.nodes inserted.whole index pair h)
+      (inserted.done.ran.nodes inserted.whole index pair h)
 
   -- each name was given by a call of a line that is new
   names_are : names_of_callers (view last).numbers (view last).seen ≡ count_by is_new replies
   names_are =
       names_all (view last).numbers (view last).seen all.callers
       ∙ (count-named (flag_count c.profile) (view last).seen own_agrees.among.legal
-      ∙ sym (counts-names (flag_count c.profile) owner trace replies c.workers (view last).seen inserted.ran.one_history.0 own_agrees shared))
+      ∙ sym (counts-names (flag_count c.profile) owner trace replies c.workers (view last).seen inserted.done.ran.one_history.0 own_agrees shared))
 
   few_made : length (view last).made ≤ (store.about.slots - 2) * length trace
   few_made =
       let probed = rests.seat.sound.probed in
       let none : (view inserted.first).probes ≡ 0 = ap (λ (v : View T). v.probes) inserted.begins in
       let most = few_puts store.about trace replies owner c.workers shared in
-      omega (arith, probed, inserted.ran.probes, none, most)
+      omega (arith, probed, inserted.done.ran.probes, none, most)
 
   counts_run : (s : Stats) → CountsOf part store.about (view last) s → Counts part store.about (length trace) (view last).known replies s
   counts_run s k = record {
@@ -138,18 +144,18 @@ module _ {T : Type 0} (part : Part T) (c : Choice) (trace : List Vector) (replie
     nodes = (view last).known;
     roots = root_pairs part (view last);
     about_is = inserted.about_is;
-    housed = housed_renamed store.about (part.house store.about) (view last).known (root_pairs part (view last)) (position_of inserted.ran.one_history.0) (view last).seen
+    housed = housed_renamed store.about (part.house store.about) (view last).known (root_pairs part (view last)) (position_of inserted.done.ran.one_history.0) (view last).seen
         (subst (λ (a : About). Housed a (part.house a) (view last).known (root_pairs part (view last)) (view last).seen) rests.seat.about_is all.housed);
     filled = filled_run;
-    barred = inserted.ran.full;
+    barred = inserted.done.ran.full;
     named = named_run;
     counts = told_so c.stats stats (CountsOf part store.about (view last)) (Counts part store.about (length trace) (view last).known replies) counts_run told;
   }
 
   -- the identifiers of the replies that are new name vectors, and what is read back by them is the named ones
   pub new_are_named : All (λ reply. IfSome (new_id reply) (λ id. (v : Vector) × (name_of (view last).seen v ≡ Some id))) replies
-  new_are_named = new-named store.about.flags owner trace replies c.workers (view inserted.first).seen (view last).seen inserted.ran.one_history.0 inserted.ran.one_history.1.among shared
+  new_are_named = new-named store.about.flags owner trace replies c.workers (view inserted.first).seen (view last).seen inserted.done.ran.one_history.0 inserted.done.ran.one_history.1.among shared
 
   pub read_back_run : (back : ReadBack) → IsReadBy (view last).seen (new_ids replies) back → IsReadBack history back
-  read_back_run back by = read-renamed (position_of inserted.ran.one_history.0) (view last).seen back
-      (read-back (flag_count c.profile) owner trace replies c.workers (view last).seen inserted.ran.one_history.0 own_agrees shared back by)
+  read_back_run back by = read-renamed (position_of inserted.done.ran.one_history.0) (view last).seen back
+      (read-back (flag_count c.profile) owner trace replies c.workers (view last).seen inserted.done.ran.one_history.0 own_agrees shared back by)

@@ -1,7 +1,7 @@
 -- What the lines of a trace are answered.
-use Rattle.std.specs.Prelude.{◌≡◌, ◌+◌, ◌*◌, ℕ, List, [], length}
+use Rattle.std.specs.Prelude.{◌≡◌, ◌+◌, ◌*◌, List, [], length}
 use Rattle.std.specs.List.{range_with_len}
-use Rattle.tdb_base.specs.Agrees.{Agrees}
+use Rattle.tdb_base.specs.Agrees.{AgreesOwned}
 use Rattle.tdb_base.specs.History.{Vector, History}
 use Rattle.pair_rule.specs.Part.{Part}
 use Rattle.pair_rule.specs.Rest.{names_of_callers}
@@ -13,6 +13,7 @@ use Rattle.treedb.specs.declared.fill.Answered.{Answered}
 use Rattle.treedb.specs.Chosen.{flag_count}
 use Rattle.treedb.specs.ReadBack.{IfPrinted, IsReadBack}
 use Rattle.treedb.specs.Run.{IsOfMode}
+use Rattle.treedb.specs.Sharing.{IsSharing, drawn_of, owner_of}
 
 -- the counts that a pass tells
 pub record CountsOf {T : Type 0} (part : Part T) (about : About) (v : View T) (stats : Stats) : Type 0 where
@@ -24,7 +25,8 @@ pub record CountsOf {T : Type 0} (part : Part T) (about : About) (v : View T) (s
 -- behind them, and where the job prints vectors the named ones were read back
 pub record AreAnswered (c : Choice) (trace : List Vector) (answered : Answered) : Type 0 where
   pub history : History
-  pub agrees : Agrees (flag_count c.profile) trace answered.replies.items c.workers c.block [] history
-      (range_with_len 0 c.workers)
-  pub of_mode : IsOfMode c.mode c trace answered.replies.items history answered.stats
+  pub shared : IsSharing c (length trace) (drawn_of answered.inserted)
+  pub agrees : AgreesOwned (flag_count c.profile) (owner_of c (drawn_of answered.inserted)) trace answered.inserted.replies.items
+      c.workers [] history (range_with_len 0 c.workers)
+  pub of_mode : IsOfMode c.mode c trace answered.inserted.replies.items history answered.stats
   pub vectors : IfPrinted c.job answered.vectors (IsReadBack history)

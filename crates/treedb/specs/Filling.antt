@@ -1,8 +1,11 @@
 -- A store of a choice is made for the lines of a trace, and filled with them.
 use Rattle.std.specs.Prelude.{◌≡◌, ◌≤◌, ◌^◌, ℕ, List, Option, All, length}
+use Rattle.tdb_base.specs.Agrees.{entries_of_insertion}
 use Rattle.tdb_base.specs.History.{Vector, History}
+use Rattle.tdb_base.specs.Lines.{owned}
 use Rattle.tdb_base.specs.declared.reply.Reply.{Reply}
 use Rattle.pair_rule.specs.declared.pass.PassOf.{PassOf}
+use Rattle.pair_rule.specs.declared.sizes.About.{About}
 use Rattle.pair_rule.specs.declared.sizes.Sizes.{Sizes}
 use Rattle.pair_rule.specs.Part.{Part, Store}
 use Rattle.pair_rule.specs.Rest.{AtRest, Whole, view}
@@ -11,7 +14,7 @@ use Rattle.root_plain.specs.Plain.{RootsFit}
 use Rattle.region_root.specs.Layout.{CellsFit, RegionFits}
 use Rattle.tree_store.specs.Ranges.{NodesFit, ProbeFits, IsFirstOut}
 use Rattle.tree_store.specs.Vectors.{IsVector}
-use Rattle.work_run.specs.Ran.{HasRun}
+use Rattle.work_run.specs.Ran.{HasRunOver}
 use Rattle.trace_csv.specs.declared.report.Stats.{Stats}
 use Rattle.command_line.specs.Sizes.{AreTableSizes}
 use Rattle.command_line.specs.declared.outcome.Choice.{Choice}
@@ -19,8 +22,10 @@ use Rattle.command_line.specs.declared.outcome.Mode.TheVariants.{Compact}
 use Rattle.command_line.specs.declared.table.TableSizes.{TableSizes}
 use Rattle.treedb.specs.ReadBack.{AwaitsLines, IfPrinted}
 use Rattle.treedb.specs.Run.{IsOfMode}
+use Rattle.treedb.specs.Sharing.{IsSharing, drawn_of, owner_of}
 use Rattle.treedb.specs.Stored.{IsAboutChoice, InStore}
 use Rattle.treedb.specs.declared.distinct.ReadBack.{ReadBack}
+use Rattle.treedb.specs.declared.insertion.Inserted.{Inserted}
 
 -- the sizes of a store are those of a choice, for so many lines of so many slots
 pub record AreSizesOf (c : Choice) (slots lines : ℕ) (store : Sizes) : Type 0 where
@@ -59,13 +64,20 @@ pub record AwaitsTrace {T : Type 0} (part : Part T) (c : Choice) (trace : List V
   pub few : length trace ≤ 2 ^ 32
   pub room_is : IfPrinted c.job room (AwaitsLines store.about.slots (length trace))
 
+-- the workers inserted the lines of a trace, which are shared out as the choice says, with these replies
+pub record HasInserted {T : Type 0} (part : Part T) (c : Choice) (about : About) (trace : List Vector)
+    (old new : PassOf T) (made : Inserted) : Type 0 where
+  pub shared : IsSharing c (length trace) (drawn_of made)
+  pub ran : HasRunOver (owned (length trace) (owner_of c (drawn_of made)))
+      (entries_of_insertion trace made.replies.items) part about trace made.replies.items c.workers old new
+
 -- these are the replies to the lines of a trace, which were inserted into a new store of a choice, and this
 -- is its pass then
-pub record AreInserted {T : Type 0} (part : Part T) (c : Choice) (trace : List Vector) (replies : List Reply)
+pub record AreInserted {T : Type 0} (part : Part T) (c : Choice) (trace : List Vector) (made : Inserted)
     (store : Store) (last : PassOf T) : Type 0 where
   pub about_is : IsAboutChoice part c trace store.about
   pub first : PassOf T
   pub unknown : T
   pub begins : view first ≡ newcomer unknown store.about
   pub whole : Whole (view first)
-  pub ran : HasRun part store.about trace replies c.workers c.block first last
+  pub done : HasInserted part c store.about trace first last made

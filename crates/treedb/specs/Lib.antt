@@ -3,6 +3,7 @@ pub mod Lines
 pub mod Check
 pub mod Stored
 pub mod ReadBack
+pub mod Sharing
 pub mod Run
 pub mod Answered
 pub mod Filling

@@ -1,9 +1,9 @@
 -- What a run of the program leaves behind.
-use Rattle.std.specs.Prelude.{◌≡◌, ◌≢◌, ◌<◌, ◌^◌, ◌↔◌, ℕ, Bool, true, false, List, [], Option, Some}
-use Rattle.std.specs.Prelude.{None, length, ⊤}
+use Rattle.std.specs.Prelude.{◌≡◌, ◌≢◌, ◌<◌, ◌↔◌, ℕ, Bool, true, false, List, [], Option, Some}
+use Rattle.std.specs.Prelude.{length, ⊤}
 use Rattle.std.specs.Io.KnownBytes.{Consumes, Appends}
 use Rattle.std.specs.List.{list_any, range_with_len}
-use Rattle.tdb_base.specs.Agrees.{Agrees}
+use Rattle.tdb_base.specs.Agrees.{AgreesOwned}
 use Rattle.tdb_base.specs.Headline.{CountsDistinct, CountsNames, DifferentLinesDifferentIds, EachNewOnce}
 use Rattle.tdb_base.specs.Headline.{EqualLinesEqualIds}
 use Rattle.tdb_base.specs.History.{Vector, History}
@@ -17,10 +17,9 @@ use Rattle.region_root.specs.Compact.{compact}
 use Rattle.root_plain.specs.Plain.{plain}
 use Rattle.trace_csv.specs.Input.{limit}
 use Rattle.trace_csv.specs.Output.{TakesFront}
-use Rattle.trace_csv.specs.Report.{report, summary_of, summary_text}
+use Rattle.trace_csv.specs.Report.{summary_of, summary_text}
 use Rattle.trace_csv.specs.Sorted.{IsSortedText}
 use Rattle.trace_csv.specs.declared.report.Stats.{Stats}
-use Rattle.trace_csv.specs.declared.report.Summary.{Summary}
 use Rattle.command_line.specs.declared.outcome.Job.{Job}
 use Rattle.command_line.specs.declared.outcome.Job.TheVariants.{Insert, Distinct, Bench, Check}
 use Rattle.command_line.specs.declared.outcome.Mode.{Mode}
@@ -28,6 +27,7 @@ use Rattle.command_line.specs.declared.outcome.Mode.TheVariants.{Plain, Compact}
 use Rattle.command_line.specs.declared.outcome.Choice.{Choice}
 use Rattle.treedb.specs.Lines.{IsTraceFor}
 use Rattle.treedb.specs.Chosen.{flag_count}
+use Rattle.treedb.specs.Sharing.{IsSharing, TellsReplies, owner_of, report_of}
 use Rattle.treedb.specs.Stored.{InStore}
 
 -- the run wrote its whole text
@@ -68,38 +68,39 @@ IsOfMode Plain c trace replies h stats = InStore plain c trace replies h stats
 IsOfMode Compact c trace replies h stats =
     InStore (compact c.profile (flag_count c.profile)) c trace replies h stats
 
--- a run that inserts lines, of a choice over the input that a source tells: its lines, a reply for each, and
--- the one history that the replies form
+-- a run that inserts lines, of a choice over the input that a source tells: its lines, a reply for each, who
+-- drew each where workers draw, and the one history that the replies form
 pub record Run (offer : Option Choice) (told : Option (List ℕ)) : Type 0 where
   pub choice : Choice
   pub trace : List Vector
   pub replies : List Reply
+  pub drawn : Option (List ℕ)
   pub history : History
   pub stats : Option Stats
   pub chose : offer ≡ Some choice
   pub some : 0 < choice.workers
   pub read : IsTraceFor choice told choice.job trace
-  pub agrees : Agrees (flag_count choice.profile) trace replies choice.workers choice.block [] history
-      (range_with_len 0 choice.workers)
+  pub shared : IsSharing choice (length trace) drawn
+  pub agrees : AgreesOwned (flag_count choice.profile) (owner_of choice drawn) trace replies choice.workers
+      [] history (range_with_len 0 choice.workers)
   pub of_mode : IsOfMode choice.mode choice trace replies history stats
 
 -- the text that a job writes: the report, the summary alone, or the vectors that have names in rising order
-abbrev pub IsText : Job → List Reply → History → Option Stats → List ℕ → Type 0
-IsText Insert replies h stats text = text ≡ report replies (summary_of replies stats)
-IsText Distinct replies h stats text = IsSortedText (named h) text
-IsText Bench replies h stats text = text ≡ summary_text (summary_of replies stats)
-IsText Check replies h stats text = ⊥
+abbrev pub IsText : Job → List Reply → Option (List ℕ) → History → Option Stats → List ℕ → Type 0
+IsText Insert replies drawn h stats text = text ≡ report_of drawn replies (summary_of replies stats)
+IsText Distinct replies drawn h stats text = IsSortedText (named h) text
+IsText Bench replies drawn h stats text = text ≡ summary_text (summary_of replies stats)
+IsText Check replies drawn h stats text = ⊥
 
 -- where the text is a report, it is that of no other replies
-abbrev pub TellsOnly : Job → List Reply → List ℕ → Type 0
-TellsOnly Insert replies text = (others : List Reply) (summary : Summary) → text ≡ report others summary
-    → others ≡ replies
-TellsOnly Distinct replies text = ⊤
-TellsOnly Bench replies text = ⊤
-TellsOnly Check replies text = ⊤
+abbrev pub TellsOnly : Job → List Reply → Option (List ℕ) → List ℕ → Type 0
+TellsOnly Insert replies drawn text = TellsReplies drawn replies text
+TellsOnly Distinct replies drawn text = ⊤
+TellsOnly Bench replies drawn text = ⊤
+TellsOnly Check replies drawn text = ⊤
 
 abbrev pub IsTextOf : {offer : Option Choice} {told : Option (List ℕ)} → Run offer told → List ℕ → Type 0
-IsTextOf run text = IsText run.choice.job run.replies run.history run.stats text
+IsTextOf run text = IsText run.choice.job run.replies run.drawn run.history run.stats text
 
 -- where the job prints vectors and no line is full, they are those of the lines
 abbrev pub PrintsTheLines : {offer : Option Choice} {told : Option (List ℕ)} → Run offer told → List ℕ
@@ -125,7 +126,7 @@ pub record Prints (offer : Option Choice) (told old new : Option (List ℕ)) (st
   pub text : List ℕ
   pub is_text : IsTextOf run text
   pub taken : Appends old new text
-  pub only : TellsOnly run.choice.job run.replies text
+  pub only : TellsOnly run.choice.job run.replies run.drawn text
   pub full : (status ≡ s.Full) ↔ (list_any is_full run.replies ≡ true)
   pub never_refuted : status ≢ s.Refuted
 

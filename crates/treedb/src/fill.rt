@@ -12,6 +12,7 @@ ghost use Rattle.treedb.specs.Filling.{AreInserted, AwaitsTrace, IsPartFor};
 ghost use Rattle.treedb.specs.ReadBack.{AwaitsLines, IfPrinted};
 
 use crate::distinct::{ReadBack, read_back};
+use crate::insertion::{Inserted, insert_plainly, insert_waiting};
 use crate::stats::stats_of;
 use crate::store::make_ready;
 use command_line::{Choice, Mode};
@@ -22,43 +23,42 @@ use root_plain::{PlainRoot, PlainTable};
 use std::alloc::Global;
 use std::sync::Wait;
 use std::thread::Threads;
-use tdb_base::{Gate, NoMemory, Reply};
+use tdb_base::{Gate, NoMemory};
 use trace_csv::{Stats, Trace};
 use tree_store::{CompactPass, CompactStore, PlainPass, PlainStore, TreeStore};
-use work_run::{run_lines, run_lines_waiting};
 
-/// The reply to each line, the counts of the store, if they are asked for, and the vectors that were answered
-/// new, if the job prints them.
+/// The reply to each line and who drew it, the counts of the store, if they are asked for, and the vectors
+/// that were answered new, if the job prints them.
 #[derive(Drop)]
 pub struct Answered {
-    pub replies: Vec<Reply>,
+    pub inserted: Inserted,
     pub stats: Option<Stats>,
     pub vectors: Option<ReadBack>,
 }
 
-// What is told of the lines of a trace that were inserted with these replies.
+// What is told of the lines of a trace that were inserted so.
 fn complete_replies<N: RootNames<W, F>, const W: u32, const F: u32>(
     names: &N,
     store: &TreeStore<N::Part, W, F>,
     pass: &mut Pass<N::Part, W, F>,
     choice: &Choice,
     trace: &Trace,
-    replies: Vec<Reply>,
+    inserted: Inserted,
     room: Option<ReadBack>,
 ) -> Answered
     requires valid { IsValid choice.now }
     requires of_mode { IsPartFor N.Part.part choice.now }
     requires names { N.store names.now ≡ store.now }
     requires rest { AtRest N.Part.part store.now pass.old }
-    requires inserted { AreInserted N.Part.part choice.now trace.now replies.items store.now pass.old }
+    requires inserted { AreInserted N.Part.part choice.now trace.now inserted store.now pass.old }
     requires room { IfPrinted choice.now.job room (AwaitsLines store.now.about.slots (length trace.now)) }
     ensures { AreAnswered choice.now trace.now result }
 {
     let _ = trace;
     let stats = stats_of(names, store, pass, choice.stats);
-    let vectors = read_back(names, store, pass, &replies, room);
+    let vectors = read_back(names, store, pass, &inserted.replies, room);
     Answered {
-        replies,
+        inserted,
         stats,
         vectors,
     }
@@ -81,18 +81,9 @@ fn fill_plain<R: Threads + Sync, G: Gate, const W: u32, const F: u32>(
     ensures answered { IfOk result (AreAnswered choice.now trace.now) }
     ensures refused { OnErr result (Unused pass.old pass.new) }
 {
-    let replies = run_lines(
-        rt,
-        alloc,
-        store,
-        pass,
-        trace,
-        choice.workers,
-        choice.block,
-        gate,
-    )?;
+    let inserted = insert_plainly(rt, alloc, store, pass, choice, trace, gate)?;
     let names = PlainTable::over(store.nodes());
-    Ok(complete_replies(&names, store, pass, choice, trace, replies, room))
+    Ok(complete_replies(&names, store, pass, choice, trace, inserted, room))
 }
 
 // Inserts the lines into a new plain store of this profile.
@@ -133,18 +124,9 @@ fn fill_compact<R: Threads + Wait + Sync, G: Gate, const W: u32, const F: u32>(
     ensures answered { IfOk result (AreAnswered choice.now trace.now) }
     ensures refused { OnErr result (Unused pass.old pass.new) }
 {
-    let replies = run_lines_waiting(
-        rt,
-        alloc,
-        store,
-        pass,
-        trace,
-        choice.workers,
-        choice.block,
-        gate,
-    )?;
+    let inserted = insert_waiting(rt, alloc, store, pass, choice, trace, gate)?;
     let names = CompactTable::over(&(), store.nodes());
-    Ok(complete_replies(&names, store, pass, choice, trace, replies, room))
+    Ok(complete_replies(&names, store, pass, choice, trace, inserted, room))
 }
 
 // Inserts the lines into a new compact store of this profile.

@@ -7,6 +7,7 @@ mod distinct;
 mod ended;
 mod fill;
 mod input;
+mod insertion;
 mod job;
 mod line_text;
 mod notes;

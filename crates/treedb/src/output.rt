@@ -1,21 +1,28 @@
 //! What a run that inserts lines writes.
-ghost use Rattle.std.specs.Prelude.{◌≡◌, ◌≢◌, All, false, true};
-ghost use Rattle.tdb_base.specs.Causes.{Rose};
+ghost use Rattle.std.specs.Prelude.{◌≡◌, ◌≢◌, ◌≤◌, All, IfSome, OnErr, OnOk, count_by, false, length, true};
+ghost use Rattle.std.specs.Io.KnownBytes.{Appends};
+ghost use Rattle.tdb_base.specs.Causes.{HasCause, Rose};
 ghost use Rattle.tdb_base.specs.History.{History};
+ghost use Rattle.tdb_base.specs.Replies.{is_new};
 ghost use Rattle.trace_csv.specs.OneReport.{HasWordId};
-ghost use Rattle.trace_csv.specs.Report.{report, summary_of, summary_text};
+ghost use Rattle.trace_csv.specs.Output.{TakesFront};
+ghost use Rattle.trace_csv.specs.Report.{summary_of, summary_text};
 ghost use Rattle.trace_csv.specs.Vectors.{vectors_text};
 ghost use Rattle.treedb.specs.Chosen.{is_check};
 ghost use Rattle.treedb.specs.ReadBack.{AreThere, IfPrinted, IsReadBack, vectors};
+ghost use Rattle.treedb.specs.Sharing.{IsSharing, drawn_of, report_of};
 ghost use Rattle.treedb.specs.Writing.{WritesAnswered, WritesText, ended_with};
 
 use crate::distinct::ReadBack;
 use crate::ended::Ended;
 use crate::fill::Answered;
+use crate::insertion::Inserted;
 use crate::stats::summary;
 use command_line::{Choice, Job};
 use tdb_base::{Reply, Sink};
-use trace_csv::{Stats, WriteFault, write_report, write_summary, write_vectors};
+use trace_csv::{
+    Stats, Summary, WriteFault, write_drawn, write_report, write_summary, write_vectors,
+};
 
 // How a run ends whose text was written.
 fn ended(replies: &[Reply]) -> Ended
@@ -28,18 +35,46 @@ fn ended(replies: &[Reply]) -> Ended
     Ended::Done
 }
 
-// Writes the report of all replies. The sink is finished then.
+// Writes the report of all replies, with who drew each line where workers drew.
+fn write_lines<K: Sink>(
+    inserted: &Inserted,
+    summary: &Summary,
+    sink: &mut K,
+) -> Result<(), WriteFault>
+    requires lines { summary.now.lines ≡ length inserted.now.replies.items }
+    requires distinct { summary.now.distinct ≡ count_by is_new inserted.now.replies.items }
+    requires workers { IfSome (drawn_of inserted.now)
+        (λ drawn. length drawn ≡ length inserted.now.replies.items) }
+    ensures ok { OnOk result (Appends (K.taken sink.old) (K.taken sink.new)
+        (report_of (drawn_of inserted.now) inserted.now.replies.items summary.now)) }
+    ensures fit { OnOk result (All HasWordId inserted.now.replies.items) }
+    ensures settled { OnOk result (K.settled sink.new ≡ true) }
+    ensures front { OnErr result (TakesFront (K.taken sink.old) (K.taken sink.new)
+        (report_of (drawn_of inserted.now) inserted.now.replies.items summary.now)) }
+    ensures cause { HasCause (K.faults sink.old) (K.faults sink.new) result }
+{
+    match &inserted.drawn {
+        Some(drawn) => write_drawn(&inserted.replies, drawn, summary, sink),
+        None => write_report(&inserted.replies, summary, sink),
+    }
+}
+
+// Writes this report. The sink is finished then.
 //
 // `WriteFault` comes only where the sink's count of faults rose, and leaves a front of the text.
-fn write_replies<K: Sink>(replies: &[Reply], stats: Option<Stats>, sink: &mut K) -> Ended
-    ensures written { WritesText (report replies.now (summary_of replies.now stats)) replies.now
+fn write_replies<K: Sink>(inserted: &Inserted, stats: Option<Stats>, sink: &mut K) -> Ended
+    requires workers { IfSome (drawn_of inserted.now)
+        (λ drawn. length drawn ≡ length inserted.now.replies.items) }
+    ensures written { WritesText (report_of (drawn_of inserted.now) inserted.now.replies.items
+        (summary_of inserted.now.replies.items stats)) inserted.now.replies.items
         (K.taken sink.old) (K.taken sink.new) result }
-    ensures fit { result ≢ Ended.WriteFault → All HasWordId replies.now }
+    ensures fit { result ≢ Ended.WriteFault → All HasWordId inserted.now.replies.items }
     ensures settled { result ≢ Ended.WriteFault → K.settled sink.new ≡ true }
     ensures fault { result ≡ Ended.WriteFault → Rose (K.faults sink.old) (K.faults sink.new) }
 {
-    match write_report(replies, &summary(replies, stats), sink) {
-        Ok(()) => ended(replies),
+    let summary = summary(&inserted.replies, stats);
+    match write_lines(inserted, &summary, sink) {
+        Ok(()) => ended(&inserted.replies),
         Err(WriteFault) => Ended::WriteFault,
     }
 }
@@ -81,6 +116,9 @@ fn write_distinct<K: Sink>(read: &ReadBack, replies: &[Reply], sink: &mut K) -> 
 /// `WriteFault` comes only where the sink's count of faults rose, and leaves a front of the text.
 pub fn write_answered<K: Sink>(choice: &Choice, answered: &Answered, sink: &mut K) -> Ended
     requires inserts { is_check choice.now.job ≡ false }
+    requires workers { choice.now.workers ≤ 64 }
+    requires shared { IsSharing choice.now (length answered.now.inserted.replies.items)
+        (drawn_of answered.now.inserted) }
     requires read { (h : History) × IfPrinted choice.now.job answered.now.vectors (IsReadBack h) }
     ensures { (h : History) → IfPrinted choice.now.job answered.now.vectors (IsReadBack h)
         → WritesAnswered choice.now answered.now h
@@ -88,12 +126,12 @@ pub fn write_answered<K: Sink>(choice: &Choice, answered: &Answered, sink: &mut 
         result }
 {
     match choice.job {
-        Job::Insert => write_replies(&answered.replies, answered.stats, sink),
+        Job::Insert => write_replies(&answered.inserted, answered.stats, sink),
         Job::Distinct => match &answered.vectors {
-            Some(vectors) => write_distinct(vectors, &answered.replies, sink),
+            Some(vectors) => write_distinct(vectors, &answered.inserted.replies, sink),
             None => unreachable!(),
         },
-        Job::Bench => write_counts(&answered.replies, answered.stats, sink),
+        Job::Bench => write_counts(&answered.inserted.replies, answered.stats, sink),
         Job::Check => unreachable!(),
     }
 }

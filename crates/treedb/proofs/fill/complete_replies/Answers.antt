@@ -14,12 +14,13 @@ read_back-vectors-requires g c =
     let trace = c.args.trace.now in
     let about = c.args.store.now.about in
     let last = c.args.pass.now in
-    let replies = c.args.replies.items in
+    let made = c.args.inserted in
+    let replies = made.replies.items in
     let some = c.requires.valid.in_range.workers.0 in
     let value = c.deref.ensures.value in
     let named = subst (λ (x : List Reply). All (λ reply. IfSome (new_id reply) (λ id. (v : Vector) × (name_of (view last).seen v ≡ Some id))) x) (sym value)
-    (new_are_named g.N.Part.RootPart.part choice trace replies c.args.store.now last some c.requires.inserted c.requires.rest) in
-    let lines : length trace ≡ length c.deref.result.now = sym c.requires.inserted.ran.one_history.1.among.one_each ∙ ap (λ (x : List Reply). length x) (sym value) in
+    (new_are_named g.N.Part.RootPart.part choice trace made c.args.store.now last some c.requires.inserted c.requires.rest) in
+    let lines : length trace ≡ length c.deref.result.now = sym c.requires.inserted.done.ran.one_history.1.among.one_each ∙ ap (λ (x : List Reply). length x) (sym value) in
     let given = if-some choice.job c.args.room (AwaitsLines about.slots (length trace)) c.requires.room in
     let room = subst (λ (n : ℕ). IfSome c.args.room (AwaitsLines about.slots n)) lines given in
     (search rules, (c.requires.names, (c.requires.rest, (named, room))))
@@ -31,16 +32,18 @@ returns g c =
     let trace = c.args.trace.now in
     let store = c.args.store.now in
     let last = c.args.pass.now in
-    let replies = c.args.replies.items in
+    let made = c.args.inserted in
+    let replies = made.replies.items in
     let some = c.requires.valid.in_range.workers.0 in
-    let run = history part choice trace replies store last some c.requires.inserted c.requires.rest in
+    let run = history part choice trace made store last some c.requires.inserted c.requires.rest in
     let into = subst (λ (x : List Reply). ReadsInto (view last).seen (new_ids x) c.args.room c.read_back-vectors.result) c.deref.ensures.value c.read_back-vectors.ensures in
     let read = read-into choice.job c.args.room c.read_back-vectors.result (AwaitsLines store.about.slots (length trace)) (view last).seen (new_ids replies) c.requires.room into in
     record {
       history = run;
-      agrees = agrees_run part choice trace replies store last some c.requires.inserted c.requires.rest;
+      shared = c.requires.inserted.done.shared;
+      agrees = agrees_run part choice trace made store last some c.requires.inserted c.requires.rest;
       of_mode = c.requires.of_mode.kept trace replies run c.stats_of-stats.result
-          (in_store_run part choice trace replies store last some c.requires.inserted c.requires.rest c.stats_of-stats.result c.stats_of-stats.ensures);
+          (in_store_run part choice trace made store last some c.requires.inserted c.requires.rest c.stats_of-stats.result c.stats_of-stats.ensures);
       vectors = if-printed choice.job c.read_back-vectors.result (IsReadBy (view last).seen (new_ids replies)) (IsReadBack run)
-          (read_back_run part choice trace replies store last some c.requires.inserted c.requires.rest) read;
+          (read_back_run part choice trace made store last some c.requires.inserted c.requires.rest) read;
     }

@@ -6,12 +6,12 @@ use Rattle.treedb.proofs.fill.fill_plain.Goals as goal
 pub complete_replies-requires : goal.complete_replies-requires
 complete_replies-requires g c =
     let ready = c.requires.ready in
-    let inserted : AreInserted plain c.args.choice.now c.args.trace.now c.in_ok-replies.replies.items c.args.store.now c.run_lines.new.pass = record {
+    let inserted : AreInserted plain c.args.choice.now c.args.trace.now c.in_ok-inserted.inserted c.args.store.now c.insert_plainly.new.pass = record {
       about_is = ready.about_is;
       first = c.args.pass.now;
       unknown = ready.unknown;
       begins = ready.begins;
       whole = ready.whole;
-      ran = c.in_ok-replies.ensures.ran;
+      done = c.in_ok-inserted.ensures.inserted;
     } in
-    (search rules, (c.requires.valid, (c.requires.of_mode, (search rules, (c.in_ok-replies.ensures.rest, (inserted, ready.room_is))))))
+    (search rules, (c.requires.valid, (c.requires.of_mode, (search rules, (c.in_ok-inserted.ensures.rest, (inserted, ready.room_is))))))

@@ -1,9 +1,8 @@
-use Rattle.std.proofs.Common.{◌≡◌, ◌≢◌, ℕ, List, refl, rules, ap}
-use Rattle.tdb_base.specs.History.{Vector}
+use Rattle.std.proofs.Common.{◌≡◌, ◌≢◌, refl, rules, ap}
 use Rattle.command_line.specs.declared.outcome.Job.TheVariants.{Bench}
 use Rattle.treedb.specs.Lines.{is_reader}
 use Rattle.treedb.proofs.LineLemmas.{reads, reads_trace, reads_whole}
-use Rattle.treedb.proofs.ReadingLemmas.{drawn_gave, drawn_no_fault, drawn_refused, drawn_trace, if_ok, if_some}
+use Rattle.treedb.proofs.ReadingLemmas.{drawn_gave, drawn_no_fault, drawn_refused, drawn_trace, if_ok}
 use Rattle.treedb.proofs.input.take_lines.Goals as goal
 
 pub returns-then-eq : goal.returns-then-eq

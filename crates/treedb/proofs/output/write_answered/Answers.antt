@@ -1,27 +1,28 @@
-use Rattle.std.proofs.Common.{◌≡◌, refl, rules, subst, sym, Option, Some, None}
+use Rattle.std.proofs.Common.{refl, subst, sym, Option}
 use Rattle.command_line.specs.declared.outcome.Job.{Job}
-use Rattle.trace_csv.specs.Report.{report, summary_of, summary_text}
+use Rattle.trace_csv.specs.Report.{summary_of, summary_text}
 use Rattle.trace_csv.specs.Vectors.{vectors_text}
-use Rattle.treedb.specs.Chosen.{is_check}
 use Rattle.treedb.specs.ReadBack.{IfPrinted, IsReadBack, vectors}
 use Rattle.treedb.specs.Run.{IsText, TellsOnly}
 use Rattle.treedb.specs.declared.distinct.ReadBack.{ReadBack}
-use Rattle.treedb.proofs.NewLemmas.{distinct-printed, printed-distinct}
-use Rattle.treedb.proofs.Outcomes.{tells_only}
+use Rattle.treedb.proofs.NewLemmas.{printed-distinct}
+use Rattle.treedb.specs.Sharing.{drawn_of, report_of}
+use Rattle.treedb.proofs.SharingLemmas.{tells-replies}
 use Rattle.treedb.proofs.output.write_answered.Goals as goal
 
 pub returns-in-Insert : goal.returns-in-Insert
 returns-in-Insert g c = λ h read.
     let a = c.args.answered.now in
-    let replies = a.replies.items in
-    let text = report replies (summary_of replies a.stats) in
-    let w = rw c.deref.ensures.value at c.write_replies.ensures in
+    let replies = a.inserted.replies.items in
+    let drawn = drawn_of a.inserted in
+    let text = report_of drawn replies (summary_of replies a.stats) in
+    let w = c.write_replies.ensures in
     let job = c.in-Insert.is in
     record {
       text = text;
-      is_text = subst (λ (j : Job). IsText j replies h a.stats text) (sym job) refl;
+      is_text = subst (λ (j : Job). IsText j replies (drawn_of a.inserted) h a.stats text) (sym job) refl;
       written = w.written;
-      only = λ calm. subst (λ (j : Job). TellsOnly j replies text) (sym job) (tells_only replies a.stats (w.fit calm));
+      only = λ calm. subst (λ (j : Job). TellsOnly j replies (drawn_of a.inserted) text) (sym job) (tells-replies c.args.choice.now replies drawn a.stats c.requires.workers c.requires.shared (w.fit calm));
       settled = w.settled;
       fault = w.fault;
     }
@@ -38,17 +39,17 @@ pub returns-in-Some : goal.returns-in-Some
 returns-in-Some g c = λ h read.
     let choice = c.args.choice.now in
     let a = c.args.answered.now in
-    let replies = a.replies.items in
+    let replies = a.inserted.replies.items in
     let back = c.in-Some.vectors in
     let text = vectors_text (vectors back) in
-    let w = rw c.deref-in-Some.ensures.value at c.write_distinct.ensures in
+    let w = rw c.deref.ensures.value at c.write_distinct.ensures in
     let job = c.in-Distinct.is in
     let printed = printed-distinct choice.job back (IsReadBack h) job (subst (λ (o : Option ReadBack). IfPrinted choice.job o (IsReadBack h)) c.in-Some.is read) in
     record {
       text = text;
-      is_text = subst (λ (j : Job). IsText j replies h a.stats text) (sym job) (record { sorted = vectors back; set = printed.set; written = refl });
+      is_text = subst (λ (j : Job). IsText j replies (drawn_of a.inserted) h a.stats text) (sym job) (record { sorted = vectors back; set = printed.set; written = refl });
       written = w.written;
-      only = λ calm. subst (λ (j : Job). TellsOnly j replies text) (sym job) tt;
+      only = λ calm. subst (λ (j : Job). TellsOnly j replies (drawn_of a.inserted) text) (sym job) tt;
       settled = w.settled;
       fault = w.fault;
     }
@@ -56,15 +57,15 @@ returns-in-Some g c = λ h read.
 pub returns-in-Bench : goal.returns-in-Bench
 returns-in-Bench g c = λ h read.
     let a = c.args.answered.now in
-    let replies = a.replies.items in
+    let replies = a.inserted.replies.items in
     let text = summary_text (summary_of replies a.stats) in
     let w = rw c.deref-in-Bench.ensures.value at c.write_counts.ensures in
     let job = c.in-Bench.is in
     record {
       text = text;
-      is_text = subst (λ (j : Job). IsText j replies h a.stats text) (sym job) refl;
+      is_text = subst (λ (j : Job). IsText j replies (drawn_of a.inserted) h a.stats text) (sym job) refl;
       written = w.written;
-      only = λ calm. subst (λ (j : Job). TellsOnly j replies text) (sym job) tt;
+      only = λ calm. subst (λ (j : Job). TellsOnly j replies (drawn_of a.inserted) text) (sym job) tt;
       settled = w.settled;
       fault = w.fault;
     }

@@ -1,0 +1,109 @@
+//! The lines of a trace are inserted into a store, in blocks that are dealt out to the workers, or that they
+//! draw.
+ghost use Rattle.std.specs.Prelude.{◌≡◌, ◌≤◌, ◌^◌, All, IfOk, OnErr, length};
+ghost use Rattle.pair_rule.specs.Rest.{AtRest};
+ghost use Rattle.region_root.specs.Compact.{compact};
+ghost use Rattle.root_plain.specs.Plain.{plain};
+ghost use Rattle.tree_store.specs.Vectors.{IsVector};
+ghost use Rattle.work_run.specs.Workers.{Unused};
+ghost use Rattle.command_line.specs.Valid.{IsValid};
+ghost use Rattle.treedb.specs.Filling.{HasInserted};
+ghost use Rattle.treedb.specs.Sharing.{draws};
+
+use command_line::{Choice, Job};
+use std::alloc::Global;
+use std::sync::Wait;
+use std::thread::Threads;
+use tdb_base::{Gate, NoMemory, Reply};
+use trace_csv::Trace;
+use tree_store::{CompactPass, CompactStore, PlainPass, PlainStore};
+use work_run::{run_drawn, run_drawn_waiting, run_lines, run_lines_waiting};
+
+/// The reply to each line, and the worker that drew it where workers draw.
+#[derive(Drop)]
+pub struct Inserted {
+    pub replies: Vec<Reply>,
+    pub drawn: Option<Vec<u32>>,
+}
+
+// Whether workers draw the blocks.
+fn are_drawn(choice: &Choice) -> bool
+    ensures { result ≡ draws choice.now }
+{
+    choice.claims
+        && match choice.job {
+            Job::Insert | Job::Bench => true,
+            Job::Distinct | Job::Check => false,
+        }
+}
+
+/// Inserts the lines into a plain store, as the choice says. After `NoMemory` no line was inserted.
+pub fn insert_plainly<R: Threads + Sync, G: Gate, const W: u32, const F: u32>(
+    rt: &R,
+    alloc: Global,
+    store: &PlainStore<W, F>,
+    pass: &mut PlainPass<W, F>,
+    choice: &Choice,
+    trace: &Trace,
+    gate: &G,
+) -> Result<Inserted, NoMemory>
+    requires valid { IsValid choice.now }
+    requires rest { AtRest plain store.now pass.old }
+    requires lines { length trace.now ≤ 2 ^ 32 }
+    requires fit { All (IsVector store.now.about) trace.now }
+    ensures rest { AtRest plain store.now pass.new }
+    ensures inserted { IfOk result (HasInserted plain choice.now store.now.about trace.now pass.old pass.new) }
+    ensures refused { OnErr result (Unused pass.old pass.new) }
+{
+    let workers = choice.workers;
+    let block = choice.block;
+    if are_drawn(choice) {
+        let (replies, drawn) = run_drawn(rt, alloc, store, pass, trace, workers, block, gate)?;
+        return Ok(Inserted {
+            replies,
+            drawn: Some(drawn),
+        });
+    }
+    let replies = run_lines(rt, alloc, store, pass, trace, workers, block, gate)?;
+    Ok(Inserted {
+        replies,
+        drawn: None,
+    })
+}
+
+/// The same over a compact store, but an insertion may wait for the lock of a root's region.
+pub fn insert_waiting<R: Threads + Wait + Sync, G: Gate, const W: u32, const F: u32>(
+    rt: &R,
+    alloc: Global,
+    store: &CompactStore<W, F>,
+    pass: &mut CompactPass<W, F>,
+    choice: &Choice,
+    trace: &Trace,
+    gate: &G,
+) -> Result<Inserted, NoMemory>
+    requires valid { IsValid choice.now }
+    requires rest { AtRest (compact W F) store.now pass.old }
+    requires lines { length trace.now ≤ 2 ^ 32 }
+    requires fit { All (IsVector store.now.about) trace.now }
+    ensures rest { AtRest (compact W F) store.now pass.new }
+    ensures inserted { IfOk result
+        (HasInserted (compact W F) choice.now store.now.about trace.now pass.old pass.new) }
+    ensures refused { OnErr result (Unused pass.old pass.new) }
+{
+    let workers = choice.workers;
+    let block = choice.block;
+    if are_drawn(choice) {
+        let (replies, drawn) = run_drawn_waiting(
+            rt, alloc, store, pass, trace, workers, block, gate,
+        )?;
+        return Ok(Inserted {
+            replies,
+            drawn: Some(drawn),
+        });
+    }
+    let replies = run_lines_waiting(rt, alloc, store, pass, trace, workers, block, gate)?;
+    Ok(Inserted {
+        replies,
+        drawn: None,
+    })
+}
