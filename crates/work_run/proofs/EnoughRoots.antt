@@ -1,11 +1,13 @@
 -- Root tables that have a place for each line's root.
 use Rattle.std.proofs.Common.{◌≡◌, ◌≢◌, ◌⊎◌, ℕ, zero, suc, ◌+◌, ◌<◌, ◌≤◌, List, [], ◌∷◌, length, Bool, true, false, cond, Some, refl, sym, ap, ◌∙◌, subst, inl, inr, ⊎_elim, arith}
-use Rattle.std.specs.Prelude.{slice_get, count_by}
+use Rattle.std.specs.Prelude.{slice_get, slice_index, count_by}
+use Rattle.std.proofs.lemmas.List.Elements.{All-get_or}
 use Rattle.std.proofs.lemmas.List.Sums.{sum_by-cons, count_by-le-length}
 use Rattle.std.proofs.lemmas.Option.{slice_get_within, slice_get-get_or}
 use Rattle.tree_shape.specs.Tree.{Has}
-use Rattle.tdb_base.specs.Agrees.{AgreesOwned, entries_of_insertion}
-use Rattle.tdb_base.specs.Lines.{AreShared, owned}
+use Rattle.tdb_base.specs.Agrees.{AgreesOver, AgreesOwned, entries_of_insertion}
+use Rattle.tdb_base.specs.Headline.{CountsNames}
+use Rattle.tdb_base.specs.Lines.{AreShared, mine, owned}
 use Rattle.tdb_base.specs.Replies.{is_new}
 use Rattle.tdb_base.specs.declared.reply.Reply.{Reply}
 use Rattle.tdb_base.specs.declared.reply.Reply.TheVariants as r
@@ -24,8 +26,11 @@ use Rattle.region_root.specs.Compact.{compact}
 use Rattle.region_root.specs.Names.{are_names}
 use Rattle.root_plain.specs.Plain.{plain}
 use Rattle.work_run.specs.Enough.{IsOfNewStore, HasRootsFor, NeverAnswered, PlainRootsSuffice, CompactRootsSuffice}
+use Rattle.work_run.specs.Drew.{AreDrawnBy}
+use Rattle.work_run.specs.Marks.{AgreesMarked, HasRunMarked, entries_of_mark}
 use Rattle.work_run.specs.Ran.{HasRunOver}
 use Rattle.work_run.proofs.Elements.{placed}
+use Rattle.work_run.proofs.MarkLaws.{marks-are-counted}
 use Rattle.work_run.proofs.Filled.{all_are_filled, has_all_below, no_longer}
 
 -- the identifiers of a history's names, one for each entry that gives one
@@ -90,19 +95,46 @@ fewer_new (reply ∷ replies) (suc i) at = omega (arith, fewer_new replies i at,
     one_at_most true = omega arith
     one_at_most false = omega arith
 
+-- a run after which as many lines are new as there are names, and of which some line is full
+some_room : {T : Type 0} (part : Part T) (store : Store) (lines_of : ℕ → List ℕ) (line_entries : ℕ → ℕ → History) (trace : List Vector) (replies : List Reply) (workers : ℕ) (old new : PassOf T)
+    → AtRest part store new → HasRunOver lines_of line_entries part store.about trace replies workers old new → CountsNames replies (view new).seen
+    → HasRootsFor part store (length trace) → NeverAnswered replies r.FullRoots
+some_room part store lines_of line_entries trace replies workers old new rest ran names room i at =
+    let h = (view new).seen in
+    let among = ran.one_history.1.among in
+    let fresh = count-named store.about.flags h among.legal in
+    let lt : i < length trace = omega (arith, slice_get_within replies i r.FullRoots at, among.one_each) in
+    let v = placed trace i lt in
+    let barred = ran.full i v.one r.FullRoots (slice_get-get_or trace i v.one lt ∙ ap Some (v.here v.one)) at in
+    room new barred.0 rest (omega (arith, names, fresh, fewer_new replies i at, among.one_each)) barred.2
+
 -- in a new store with a place for each line's root no line is full at its root
 pub never_full_roots : {T : Type 0} (part : Part T) (store : Store) (owner : ℕ → ℕ) (trace : List Vector) (replies : List Reply) (workers : ℕ) (old new : PassOf T)
     → AtRest part store new → AreShared (length trace) workers owner
     → HasRunOver (owned (length trace) owner) (entries_of_insertion trace replies) part store.about trace replies workers old new
     → IsOfNewStore (view old) → HasRootsFor part store (length trace) → NeverAnswered replies r.FullRoots
-never_full_roots part store owner trace replies workers old new rest shared ran is_new_store room i at =
+never_full_roots part store owner trace replies workers old new rest shared ran is_new_store room =
     let h = (view new).seen in
     let flags = store.about.flags in
     let one = ran.one_history in
     let agrees = subst (λ (g : History). AgreesOwned flags owner trace replies workers g h one.0) is_new_store.no_calls (one.1.alone is_new_store.whole) in
-    let names = counts-names flags owner trace replies workers h one.0 agrees shared in
-    let fresh = count-named flags h agrees.among.legal in
-    let lt : i < length trace = omega (arith, slice_get_within replies i r.FullRoots at, agrees.among.one_each) in
-    let v = placed trace i lt in
-    let barred = ran.full i v.one r.FullRoots (slice_get-get_or trace i v.one lt ∙ ap Some (v.here v.one)) at in
-    room new barred.0 rest (omega (arith, names, fresh, fewer_new replies i at, agrees.among.one_each)) barred.2
+    some_room part store (owned (length trace) owner) (entries_of_insertion trace replies) trace replies workers old new rest ran (counts-names flags owner trace replies workers h one.0 agrees shared) room
+
+-- the same where lines are inserted and marked
+pub marked_never_full_roots : {T : Type 0} (part : Part T) (store : Store) (trace : List Vector) (replies : List Reply) (firsts : List Bool) (workers block flag : ℕ) (old new : PassOf T)
+    → AtRest part store new → 0 < workers → HasRunMarked part store.about trace replies firsts workers block flag old new
+    → IsOfNewStore (view old) → HasRootsFor part store (length trace) → NeverAnswered replies r.FullRoots
+marked_never_full_roots part store trace replies firsts workers block flag old new rest some run is_new_store room =
+    let h = (view new).seen in
+    let flags = store.about.flags in
+    let one = run.ran.one_history in
+    let agrees : AgreesMarked flags trace replies firsts workers block flag [] h one.0 = record {
+      over = subst (λ (g : History). AgreesOver flags (mine (length trace) workers block) (entries_of_mark flag trace replies firsts) trace replies workers g h one.0) is_new_store.no_calls (one.1.alone is_new_store.whole);
+      marks = run.marks;
+    } in
+    let told = marks-are-counted flags trace replies firsts workers block flag h one.0 some agrees in
+    some_room part store (mine (length trace) workers block) (entries_of_mark flag trace replies firsts) trace replies workers old new rest run.ran (sym told.new ∙ told.names) room
+
+-- each line that is drawn is some worker's
+pub drawn_shared : (lines workers block : ℕ) (drawn : List ℕ) → AreDrawnBy lines workers block drawn → AreShared lines workers (slice_index drawn)
+drawn_shared lines workers block drawn drew = λ i lt. let long = drew.one_each in All-get_or (λ (j : ℕ). j < workers) drawn i 0 (omega (arith, lt, long)) drew.among

@@ -1,10 +1,13 @@
 //! Workers do a task with the lines of a trace, in blocks that they draw; and insert them, without more.
 ghost use Rattle.std.specs.Prelude.{◌≤◌, ◌^◌, IfOk, OnErr, All, length};
-ghost use Rattle.pair_rule.specs.Rest.{AtRest};
+ghost use Rattle.pair_rule.specs.Paths.{root_buckets};
+ghost use Rattle.pair_rule.specs.Rest.{AtRest, view};
 ghost use Rattle.region_root.specs.Compact.{compact};
+ghost use Rattle.region_root.specs.Layout.{most};
 ghost use Rattle.root_plain.specs.Plain.{plain};
 ghost use Rattle.tree_store.specs.Vectors.{IsVector};
 ghost use Rattle.work_run.specs.Drew.{HasRunDrawn, HasRunDrawnTask};
+ghost use Rattle.work_run.specs.Enough.{HasBucketsFor, NoRootIsFull};
 ghost use Rattle.work_run.specs.Workers.{Unused};
 
 use crate::drawn::Drawn;
@@ -94,6 +97,8 @@ pub fn run_drawn<R: Threads + Sync, G: Gate, const W: u32, const F: u32>(
     ensures rest { AtRest plain store.now pass.new }
     ensures ran { IfOk result (λ made. HasRunDrawn plain store.now.about trace.now made.0.items
         made.1.items workers block pass.old pass.new) }
+    ensures enough_roots { IfOk result (λ made. NoRootIsFull (view pass.old)
+        (HasBucketsFor (length trace.now) (root_buckets store.now.about)) made.0.items) }
     ensures refused { OnErr result (Unused pass.old pass.new) }
 {
     let shared = Plain { store };
@@ -121,6 +126,8 @@ pub fn run_drawn_waiting<R: Threads + Wait + Sync, G: Gate, const W: u32, const 
     ensures rest { AtRest (compact W F) store.now pass.new }
     ensures ran { IfOk result (λ made. HasRunDrawn (compact W F) store.now.about trace.now made.0.items
         made.1.items workers block pass.old pass.new) }
+    ensures enough_roots { IfOk result (λ made. NoRootIsFull (view pass.old)
+        (length trace.now ≤ most store.now.about) made.0.items) }
     ensures refused { OnErr result (Unused pass.old pass.new) }
 {
     let shared = Compact { rt, store };

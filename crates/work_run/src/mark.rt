@@ -1,10 +1,13 @@
 //! Workers insert the lines of a trace, and set a flag of each line's vector.
 ghost use Rattle.std.specs.Prelude.{◌≡◌, ◌<◌, ◌≤◌, ◌^◌, [], IfOk, OnErr, All, length, map};
 ghost use Rattle.std.specs.Prelude.{vec_capacity, vec_len};
-ghost use Rattle.pair_rule.specs.Rest.{AtRest};
+ghost use Rattle.pair_rule.specs.Paths.{root_buckets};
+ghost use Rattle.pair_rule.specs.Rest.{AtRest, view};
 ghost use Rattle.region_root.specs.Compact.{compact};
+ghost use Rattle.region_root.specs.Layout.{most};
 ghost use Rattle.root_plain.specs.Plain.{plain};
 ghost use Rattle.tree_store.specs.Vectors.{IsVector};
+ghost use Rattle.work_run.specs.Enough.{HasBucketsFor, NoRootIsFull};
 ghost use Rattle.work_run.specs.Marks.{HasRunMarked, MarkersMayBeRenumbered, MarksAreCounted};
 ghost use Rattle.work_run.specs.Workers.{Unused};
 
@@ -97,6 +100,8 @@ pub fn mark_lines<R: Threads + Sync, G: Gate, const W: u32, const F: u32>(
     ensures rest { AtRest plain store.now pass.new }
     ensures ran { IfOk result (λ made. HasRunMarked plain store.now.about trace.now made.0.items
         made.1.items workers block flag pass.old pass.new) }
+    ensures enough_roots { IfOk result (λ made. NoRootIsFull (view pass.old)
+        (HasBucketsFor (length trace.now) (root_buckets store.now.about)) made.0.items) }
     ensures refused { OnErr result (Unused pass.old pass.new) }
 {
     let shared = Plain { store };
@@ -125,6 +130,8 @@ pub fn mark_lines_waiting<R: Threads + Wait + Sync, G: Gate, const W: u32, const
     ensures rest { AtRest (compact W F) store.now pass.new }
     ensures ran { IfOk result (λ made. HasRunMarked (compact W F) store.now.about trace.now made.0.items
         made.1.items workers block flag pass.old pass.new) }
+    ensures enough_roots { IfOk result (λ made. NoRootIsFull (view pass.old)
+        (length trace.now ≤ most store.now.about) made.0.items) }
     ensures refused { OnErr result (Unused pass.old pass.new) }
 {
     let shared = Compact { rt, store };
