@@ -10,6 +10,7 @@ ghost use Rattle.region_root.specs.Compact.{compact};
 
 mod crowd;
 mod door;
+mod moved;
 mod once;
 
 use crate::steps::next_even;
