@@ -1,5 +1,5 @@
 -- Root tables that have a place for each line's root.
-use Rattle.std.proofs.Common.{◌≡◌, ◌≢◌, ◌⊎◌, ℕ, zero, suc, ◌+◌, ◌<◌, ◌≤◌, List, [], ◌∷◌, length, Bool, true, false, cond, Some, refl, sym, ap, ◌∙◌, subst, inl, inr, ⊎_elim, arith}
+use Rattle.std.proofs.Common.{◌≡◌, ℕ, zero, suc, ◌+◌, ◌<◌, ◌≤◌, List, [], ◌∷◌, length, Bool, true, false, cond, Some, refl, sym, ap, ◌∙◌, subst, inl, inr, arith}
 use Rattle.std.specs.Prelude.{slice_get, slice_index, count_by}
 use Rattle.std.proofs.lemmas.List.Elements.{All-get_or}
 use Rattle.std.proofs.lemmas.List.Sums.{sum_by-cons, count_by-le-length}
@@ -18,11 +18,9 @@ use Rattle.tdb_base.specs.History.{Vector, Entry, History, is_fresh, name_of}
 use Rattle.tdb_base.specs.Legal.{IsLegal}
 use Rattle.tdb_base.proofs.NameLemmas.{name-given}
 use Rattle.tdb_base.proofs.ListLemmas.{at-contained}
-use Rattle.pair_rule.specs.Numbers.{NoRepeats}
 use Rattle.pair_rule.specs.Part.{Store, Part, root_pairs}
 use Rattle.pair_rule.specs.Paths.{root_buckets, size, Listed}
 use Rattle.pair_rule.specs.Rest.{AtRest, view}
-use Rattle.region_root.specs.Compact.{compact}
 use Rattle.region_root.specs.Names.{are_names}
 use Rattle.root_plain.specs.Plain.{plain}
 use Rattle.work_run.specs.Enough.{IsOfNewStore, HasRootsFor, NeverAnswered, PlainRootsSuffice, CompactRootsSuffice}

@@ -1,5 +1,5 @@
 -- A path through all buckets of which each has another pair: then all buckets have one.
-use Rattle.std.proofs.Common.{◌≡◌, ◌≢◌, ℕ, zero, suc, ◌*◌, ◌^◌, ◌<◌, ◌≤◌, List, [], ◌∷◌, length, refl, sym, ap, ◌∙◌, subst, inl, inr, ⊎_elim, arith}
+use Rattle.std.proofs.Common.{◌≡◌, ◌≢◌, ℕ, zero, suc, ◌<◌, ◌≤◌, List, [], ◌∷◌, length, refl, sym, ap, ◌∙◌, subst, inl, inr, ⊎_elim, arith}
 use Rattle.tree_shape.specs.Tree.{Has}
 use Rattle.probe_path.proofs.Buckets.{buckets_met, lines_of_8}
 use Rattle.pair_rule.specs.Numbers.{NoRepeats}
