@@ -53,9 +53,13 @@ check_names() {
   local name=$1 trace=$2
   shift 2
   ./treedb "$@" < "$trace" > "$work/got" 2> "$work/notes"
-  local was=$?
-  local faults
-  faults=$(awk -F, -v trace="$trace" '
+  tell_names "$name" "$trace" $? ''
+}
+
+# tell_names NAME TRACE STATUS FAULTS: the same of a report that was written with this status, and in which these faults were found
+tell_names() {
+  local name=$1 trace=$2 was=$3 faults=$4
+  faults+=$(awk -F, -v trace="$trace" '
     function fault(what) { print "line " FNR ": " what }
     FILENAME == trace { line[FNR] = $0; lines = FNR; if (!($0 in met)) { met[$0]; vectors++ } next }
     FNR <= lines {
@@ -78,6 +82,26 @@ check_names() {
   fi
 }
 
+# check_drawn NAME TRACE WORKERS BLOCK WORDS..: a report of lines that so many workers drew in such blocks: each line ends in a worker's number, one for all
+# lines of a block, and without these it is a report as any
+check_drawn() {
+  local name=$1 trace=$2 workers=$3 block=$4
+  shift 4
+  ./treedb "$@" --workers "$workers" --block "$block" --claims < "$trace" > "$work/drawn" 2> "$work/notes"
+  local was=$?
+  local faults
+  faults=$(awk -F, -v workers="$workers" -v block="$block" '
+    NF == 4 {
+      at = int((NR - 1) / block)
+      if ($4 !~ /^[0-9]+$/ || $4 + 0 >= workers + 0 || (at in of && of[at] != $4)) print "line " NR ": its worker"
+      of[at] = $4
+      next
+    }
+    !/^(lines|distinct) [0-9]+$/ { print "line " NR ": its fields" }' "$work/drawn" | head -n 3)
+  sed 's/^\([^,]*,[^,]*,[^,]*\),[^,]*$/\1/' "$work/drawn" > "$work/got"
+  tell_names "$name" "$trace" "$was" "$faults"
+}
+
 ./treedb insert < examples/pairs.csv > /dev/null 2>&1 # builds on first use
 awk 'BEGIN { x = 7; for (i = 0; i < 200000; i++) { x = (x * 16807) % 2147483647; print x % 997 "," int(x / 1000) % 499 } }' > "$work/pairs.csv"
 awk 'BEGIN { x = 7; for (i = 0; i < 100000; i++) { x = (x * 16807) % 2147483647; v[x % 9] = int(x / 1000) % 3
@@ -95,10 +119,16 @@ check_names "200,000 drawn pairs by 8 workers" "$work/pairs.csv" insert --worker
 check_names "a walk of 100,000 lines" "$work/walk.csv" insert
 check_names "a walk of 100,000 lines by 64 workers, line by line" "$work/walk.csv" insert --workers 64 --block 1
 check_names "a walk of 100,000 lines of big numbers' width" "$work/walk.csv" insert --profile 31 --workers 3
+check_drawn "a walk of 100,000 lines, drawn by one worker" "$work/walk.csv" 1 64 insert
+check_drawn "a walk of 100,000 lines, drawn by 8 workers" "$work/walk.csv" 8 64 insert
+check_drawn "a walk of 100,000 lines, drawn line by line by 64 workers" "$work/walk.csv" 64 1 insert
+check_drawn "the same in compact mode" "$work/walk.csv" 64 1 insert --mode compact
 
 wants 'lines 100000\ndistinct 74191\n'
 check "drawn lines" 0 "" bench --lines 100000 --slots 32 --values 4 --seed 1 < /dev/null
 check "drawn lines by 8 workers" 0 "" bench --lines 100000 --slots 32 --values 4 --seed 1 --workers 8 < /dev/null
+check "drawn lines in blocks that 8 workers draw" 0 "" bench --lines 100000 --slots 32 --values 4 --seed 1 --workers 8 --claims < /dev/null
+check "the same in compact mode" 0 "" bench --mode compact --lines 100000 --slots 32 --values 4 --seed 1 --workers 8 --claims < /dev/null
 check "drawn lines in compact mode" 0 "" bench --mode compact --lines 100000 --slots 32 --values 4 --seed 1 < /dev/null
 check "drawn lines in compact mode by 8 workers" 0 "" bench --mode compact --lines 100000 --slots 32 --values 4 --seed 1 --workers 8 < /dev/null
 

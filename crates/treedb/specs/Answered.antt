@@ -26,7 +26,7 @@ pub record CountsOf {T : Type 0} (part : Part T) (about : About) (v : View T) (s
 pub record AreAnswered (c : Choice) (trace : List Vector) (answered : Answered) : Type 0 where
   pub history : History
   pub shared : IsSharing c (length trace) (drawn_of answered.inserted)
-  pub agrees : AgreesOwned (flag_count c.profile) (owner_of c (drawn_of answered.inserted)) trace answered.inserted.replies.items
-      c.workers [] history (range_with_len 0 c.workers)
+  pub agrees : AgreesOwned (flag_count c.profile) (owner_of c (drawn_of answered.inserted)) trace
+      answered.inserted.replies.items c.workers [] history (range_with_len 0 c.workers)
   pub of_mode : IsOfMode c.mode c trace answered.inserted.replies.items history answered.stats
   pub vectors : IfPrinted c.job answered.vectors (IsReadBack history)

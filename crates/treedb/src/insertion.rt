@@ -52,7 +52,8 @@ pub fn insert_plainly<R: Threads + Sync, G: Gate, const W: u32, const F: u32>(
     requires lines { length trace.now ≤ 2 ^ 32 }
     requires fit { All (IsVector store.now.about) trace.now }
     ensures rest { AtRest plain store.now pass.new }
-    ensures inserted { IfOk result (HasInserted plain choice.now store.now.about trace.now pass.old pass.new) }
+    ensures inserted { IfOk result
+        (HasInserted plain choice.now store.now.about trace.now pass.old pass.new) }
     ensures refused { OnErr result (Unused pass.old pass.new) }
 {
     let workers = choice.workers;

@@ -4,6 +4,7 @@ ghost use Rattle.std.specs.Prelude.{◌<◌};
 
 mod changed;
 mod checks;
+mod claims;
 mod compact;
 mod distinct;
 mod faults;
