@@ -36,7 +36,7 @@ valid_trace c bytes Check is valid text cut none =
 
 module _ {S K : Type 0} (source : SourceStep S) (sink : SinkStep K) (read : Rose (source.faults source.old) (source.faults source.new) → ⊥)
     (wrote : Rose (sink.faults sink.old) (sink.faults sink.new) → ⊥) where
-  by_status : (c : Choice) (bytes : List ℕ) (status : Status) → Outcome (Some c) source sink status → source.left source.old ≡ Some bytes → length bytes ≤ limit → IsValidInput c.job c bytes
+  pub by_status : (c : Choice) (bytes : List ℕ) (status : Status) → Outcome (Some c) source sink status → source.left source.old ≡ Some bytes → length bytes ≤ limit → IsValidInput c.job c bytes
       → (is_printed status ≡ true) ⊎ (status ≡ s.NoMemory)
   by_status c bytes s.Done outcome told few valid = inl refl
   by_status c bytes s.Full outcome told few valid = inl refl

@@ -11,6 +11,7 @@ use Rattle.treedb.specs.Note.{has_note, status_of}
 use Rattle.treedb.specs.Outcome.{EndsAs, IsNoted, Outcome, RunEnds, SinkStep, SourceStep}
 use Rattle.treedb.specs.declared.ended.Ended.{Ended}
 use Rattle.treedb.proofs.Complete.{complete}
+use Rattle.treedb.proofs.Done.{done_by_default, done_with_room}
 use Rattle.treedb.proofs.RunLemmas.{headline}
 
 pub run_ends : {S K N : Type 0} (offer : Option Choice) (source : SourceStep S) (sink : SinkStep K) (notes : SinkStep N) (ended : Ended) (status : Status)
@@ -21,6 +22,8 @@ run_ends offer source sink notes ended status ends is noted settled none = recor
   headline = λ printed run text is_text taken. headline offer (source.left source.old) run text is_text;
   outcome = subst (λ (t : Status). Outcome offer source sink t) (sym is) ends.outcome;
   complete = complete offer source sink status (subst (λ (t : Status). Outcome offer source sink t) (sym is) ends.outcome);
+  done_with_room = done_with_room offer source sink status (subst (λ (t : Status). Outcome offer source sink t) (sym is) ends.outcome);
+  done_by_default = done_by_default offer source sink status (subst (λ (t : Status). Outcome offer source sink t) (sym is) ends.outcome);
   note = record { ended = ended; status_is = is; detail = ends.detail; noted = noted };
   note_settled = λ noting. settled (sym (ap has_note is) ∙ noting);
   no_note = λ silent. none (sym (ap has_note is) ∙ silent);

@@ -4,8 +4,10 @@ pub mod ReadingLemmas
 pub mod RunLemmas
 pub mod NewLemmas
 pub mod Parts
+pub mod RoomLemmas
 pub mod Stores
 pub mod Outcomes
 pub mod ReadBackLemmas
 pub mod Complete
+pub mod Done
 pub mod Ending

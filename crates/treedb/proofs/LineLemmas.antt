@@ -1,6 +1,6 @@
 -- The lines that a choice reads and draws.
 use Rattle.std.proofs.Common.{◌≡◌, ◌≢◌, ℕ, List, true, false, Option, Some, None, refl}
-use Rattle.std.specs.Prelude.{IfSome, Ok}
+use Rattle.std.specs.Prelude.{IfSome, Result, Ok, Err}
 use Rattle.tdb_base.specs.History.{Vector}
 use Rattle.trace_csv.specs.Trace.{Unsigned, trace_of}
 use Rattle.trace_csv.specs.declared.refusal.TraceError.{TraceError}
@@ -8,12 +8,19 @@ use Rattle.command_line.specs.declared.outcome.Job.{Job}
 use Rattle.command_line.specs.declared.outcome.Job.TheVariants.{Insert, Distinct, Bench, Check}
 use Rattle.command_line.specs.declared.outcome.Choice.{Choice}
 use Rattle.treedb.specs.Chosen.{is_check}
-use Rattle.treedb.specs.Lines.{IsTraceFor, IsTraceText, is_reader, read_lines}
+use Rattle.treedb.specs.Lines.{IsTraceFor, IsTraceText, is_reader, lines_in, read_lines}
 use Rattle.treedb.specs.Reading.{IsRefusedFor}
 
 -- the lines that were read are those of the bytes
 pub lines_read : (c : Choice) (bytes : List ℕ) (lines : List Vector) → trace_of (Unsigned c.profile) bytes ≡ Ok lines → read_lines c bytes ≡ Some lines
 lines_read c bytes lines is = rw is refl
+
+pub lines_were : (c : Choice) (bytes : List ℕ) (lines : List Vector) → read_lines c bytes ≡ Some lines → trace_of (Unsigned c.profile) bytes ≡ Ok lines
+lines_were c bytes lines is = by (trace_of (Unsigned c.profile) bytes) is
+  where
+    by : (result : Result (List Vector) TraceError) → lines_in result ≡ Some lines → result ≡ Ok lines
+    by (Ok found) same = cc same
+    by (Err error) same = cc same
 
 -- bytes that are refused have no lines
 pub none_read : (c : Choice) (bytes : List ℕ) (error : TraceError) → IsRefusedFor c bytes error → read_lines c bytes ≡ None

@@ -1,5 +1,5 @@
 -- From what the parts of a run leave to what is told of its end.
-use Rattle.std.proofs.Common.{◌≡◌, ◌≢◌, ◌<◌, ℕ, zero, suc, List, [], ◌∷◌, ◌+◌, Bool, true, false, cond, Option, Some, refl, sym, ap, ◌∙◌, subst, ⊎_elim, arith, take, length}
+use Rattle.std.proofs.Common.{◌≡◌, ◌≢◌, ℕ, zero, suc, List, [], ◌∷◌, ◌+◌, Bool, true, false, cond, Option, Some, refl, sym, ap, ◌∙◌, subst, ⊎_elim, arith, take, length}
 use Rattle.std.proofs.lemmas.List.Sums.{sum_by-cons}
 use Rattle.std.specs.Prelude.{◌||◌, ◌↔◌, drop, IfSome, Result, Ok, Err, count_by}
 use Rattle.std.specs.List.{list_any, range_with_len}
@@ -21,6 +21,7 @@ use Rattle.run_check.specs.declared.verdict.Verdict.{Verdict}
 use Rattle.run_check.specs.declared.verdict.Verdict.TheVariants as v
 use Rattle.run_check.proofs.Verdicts.{least-same}
 use Rattle.command_line.specs.declared.outcome.Job.TheVariants.{Check}
+use Rattle.command_line.specs.Valid.{IsValid}
 use Rattle.command_line.specs.declared.outcome.Choice.{Choice}
 use Rattle.treedb.specs.Check.{HasTrace, IsWrongInput, Judged, PrintsVerdict, PrintsVerdictFront, WritesVerdict, ended_with_verdict, verdict_text}
 use Rattle.treedb.specs.Lines.{HasNoTrace, IsTraceFor, is_reader}
@@ -30,7 +31,7 @@ use Rattle.treedb.specs.Chosen.{flag_count, is_check}
 use Rattle.treedb.specs.Outcome.{EndsAs, HasNoReport, IsDetail, SinkStep, SourceStep}
 use Rattle.treedb.specs.Reading.{EndsReading, GaveWithin, IsBadTrace, ReadsToEnd}
 use Rattle.treedb.specs.Sharing.{IsSharing, drawn_of, owner_of}
-use Rattle.treedb.specs.Run.{GivesWithin, IsOfMode, IsText, Prints, PrintsFront, Run, TellsOnly, is_printed, reads_to_end}
+use Rattle.treedb.specs.Run.{GivesWithin, IsOfMode, IsText, Prints, PrintsFront, Run, TellsOnly, is_of_input, is_printed, reads_to_end}
 use Rattle.treedb.specs.Writing.{WritesAnswered, WritesText, ended_with, ended_with_full}
 use Rattle.treedb.specs.declared.fill.Answered.{Answered}
 use Rattle.treedb.specs.declared.ended.Ended.{Ended}
@@ -66,19 +67,20 @@ bad_none c error bytes bad = (bad.0, bad.1, none_read c bad.0 error bad.2)
 module _ {S K : Type 0} (c : Choice) (source : SourceStep S) (sink : SinkStep K) where
   -- a run that wrote nothing
   quiet : (ended : Ended) → is_printed (status_of ended) ≡ false → status_of ended ≢ s.WriteFault → status_of ended ≢ s.Usage → sink.new ≡ sink.old
-      → (is_reader c.job ≡ false → source.new ≡ source.old)
+      → (is_reader c.job ≡ false → source.new ≡ source.old) → (is_of_input (status_of ended) ≡ true → is_reader c.job ≡ true)
       → (status_of ended ≡ s.ReadFault → Rose (source.faults source.old) (source.faults source.new))
       → GivesWithin (source.left source.old) (source.left source.new) (status_of ended)
       → (status_of ended ≡ s.BadTrace → IfSome (source.left source.old) (λ bytes. HasNoTrace c bytes))
       → (status_of ended ≡ s.BadReport → (c.job ≡ Check) × IfSome (source.left source.old) (HasNoReport c))
       → (reads_to_end (status_of ended) ≡ true → is_reader c.job ≡ true → IsAtEnd (source.left source.new))
       → IsDetail (Some c) (source.left source.old) (sink.taken sink.old) (sink.taken sink.new) ended → EndsAs (Some c) source sink ended
-  quiet ended silent unwritten taken_words same drawn read gave bad no_report at_end detail = record {
+  quiet ended silent unwritten taken_words same drawn reads read gave bad no_report at_end detail = record {
     outcome = record {
       usage = λ u. absurd (taken_words u);
       refused_words = λ n. cc n;
       unread = λ u. absurd (taken_words u);
       drawn = drawn;
+      of_input = reads;
       read_fault = read;
       gave = gave;
       bad_trace = bad;
@@ -126,36 +128,36 @@ module _ {S K : Type 0} (c : Choice) (source : SourceStep S) (sink : SinkStep K)
   pub stopped : {T : Type 0} (ended : Ended) (result : Result T Ended) → result ≡ Err ended → sink.new ≡ sink.old
       → EndsReading c (source.left source.old) ended → GaveWithin (source.left source.old) (source.left source.new) result
       → (result ≡ Err e.ReadFault → Rose (source.faults source.old) (source.faults source.new)) → (is_reader c.job ≡ true → ReadsToEnd result → IsAtEnd (source.left source.new))
-      → (is_reader c.job ≡ false → source.new ≡ source.old) → EndsAs (Some c) source sink ended
-  stopped {T = T} ended result is same ends gave fault at_end drawn = by ended is ends
+      → (is_reader c.job ≡ false → source.new ≡ source.old) → (ended ≢ e.NoMemory → is_reader c.job ≡ true) → EndsAs (Some c) source sink ended
+  stopped {T = T} ended result is same ends gave fault at_end drawn reads = by ended is ends reads
     where
-      by : (ended : Ended) → result ≡ Err ended → EndsReading c (source.left source.old) ended → EndsAs (Some c) source sink ended
-      by (e.BadTrace error) is ends =
-          quiet (e.BadTrace error) refl (λ w. cc w) (λ u. cc u) same drawn (λ r. cc r) (gives result s.BadTrace gave (λ t. cc t) (λ t. cc (t, is)))
+      by : (ended : Ended) → result ≡ Err ended → EndsReading c (source.left source.old) ended → (ended ≢ e.NoMemory → is_reader c.job ≡ true) → EndsAs (Some c) source sink ended
+      by (e.BadTrace error) is ends reads =
+          quiet (e.BadTrace error) refl (λ w. cc w) (λ u. cc u) same drawn (λ r. reads (λ m. cc m)) (λ r. cc r) (gives result s.BadTrace gave (λ t. cc t) (λ t. cc (t, is)))
           (λ b. if_some (source.left source.old) (bad_none c error) ends) (λ b. cc b) (λ t r. at_end r (subst (λ (x : Result T Ended). ReadsToEnd x) (sym is) tt)) ends
-      by e.NoReport is ends =
-          quiet e.NoReport refl (λ w. cc w) (λ u. cc u) same drawn (λ r. cc r) (gives result s.BadReport gave (λ t. cc t) (λ t. cc (t, is)))
+      by e.NoReport is ends reads =
+          quiet e.NoReport refl (λ w. cc w) (λ u. cc u) same drawn (λ r. reads (λ m. cc m)) (λ r. cc r) (gives result s.BadReport gave (λ t. cc t) (λ t. cc (t, is)))
           (λ b. cc b) (λ b. (ends.0, if_some (source.left source.old) (whole_none c) ends.1)) (λ t r. at_end r (subst (λ (x : Result T Ended). ReadsToEnd x) (sym is) tt)) ends
-      by (e.WrongReport line) is ends =
-          quiet (e.WrongReport line) refl (λ w. cc w) (λ u. cc u) same drawn (λ r. cc r) (gives result s.BadReport gave (λ t. cc t) (λ t. cc (t, is)))
+      by (e.WrongReport line) is ends reads =
+          quiet (e.WrongReport line) refl (λ w. cc w) (λ u. cc u) same drawn (λ r. reads (λ m. cc m)) (λ r. cc r) (gives result s.BadReport gave (λ t. cc t) (λ t. cc (t, is)))
           (λ b. cc b) (λ b. (ends.0, if_some (source.left source.old) (λ bytes wrong. wrong_none c bytes line wrong) ends.1))
           (λ t r. at_end r (subst (λ (x : Result T Ended). ReadsToEnd x) (sym is) tt)) ends
-      by e.NoMemory is ends =
-          quiet e.NoMemory refl (λ w. cc w) (λ u. cc u) same drawn (λ r. cc r) (gives result s.NoMemory gave (λ t. cc t) (λ t. cc (t, is))) (λ b. cc b) (λ b. cc b) (λ t. cc t) tt
-      by e.TooMuch is ends =
-          quiet e.TooMuch refl (λ w. cc w) (λ u. cc u) same drawn (λ r. cc r) (gives result s.TooMuch gave (λ t. is) (λ t. refl)) (λ b. cc b) (λ b. cc b) (λ t. cc t) tt
-      by e.ReadFault is ends =
-          quiet e.ReadFault refl (λ w. cc w) (λ u. cc u) same drawn (λ r. fault is) (gives result s.ReadFault gave (λ t. cc t) (λ t. cc (t, is))) (λ b. cc b) (λ b. cc b) (λ t. cc t) tt
-      by e.Done is ends = absurd ends
-      by e.Usage is ends = absurd ends
-      by (e.Full n) is ends = absurd ends
-      by e.WriteFault is ends = absurd ends
-      by e.Refuted is ends = absurd ends
+      by e.NoMemory is ends reads =
+          quiet e.NoMemory refl (λ w. cc w) (λ u. cc u) same drawn (λ r. cc r) (λ r. cc r) (gives result s.NoMemory gave (λ t. cc t) (λ t. cc (t, is))) (λ b. cc b) (λ b. cc b) (λ t. cc t) tt
+      by e.TooMuch is ends reads =
+          quiet e.TooMuch refl (λ w. cc w) (λ u. cc u) same drawn (λ r. reads (λ m. cc m)) (λ r. cc r) (gives result s.TooMuch gave (λ t. is) (λ t. refl)) (λ b. cc b) (λ b. cc b) (λ t. cc t) tt
+      by e.ReadFault is ends reads =
+          quiet e.ReadFault refl (λ w. cc w) (λ u. cc u) same drawn (λ r. reads (λ m. cc m)) (λ r. fault is) (gives result s.ReadFault gave (λ t. cc t) (λ t. cc (t, is))) (λ b. cc b) (λ b. cc b) (λ t. cc t) tt
+      by e.Done is ends reads = absurd ends
+      by e.Usage is ends reads = absurd ends
+      by (e.Full n) is ends reads = absurd ends
+      by e.WriteFault is ends reads = absurd ends
+      by e.Refuted is ends reads = absurd ends
 
   -- a run that has an input, and no memory for more
   pub out_of_memory : HasInput → sink.new ≡ sink.old → EndsAs (Some c) source sink e.NoMemory
   out_of_memory input same =
-      quiet e.NoMemory refl (λ w. cc w) (λ u. cc u) same input.drawn (λ r. cc r) (input.within s.NoMemory (λ t. cc t)) (λ b. cc b) (λ b. cc b) (λ t. cc t) tt
+      quiet e.NoMemory refl (λ w. cc w) (λ u. cc u) same input.drawn (λ r. cc r) (λ r. cc r) (input.within s.NoMemory (λ t. cc t)) (λ b. cc b) (λ b. cc b) (λ t. cc t) tt
 
 -- lines are full where their count is not 0
 any_full : (replies : List Reply) → (count_by is_full replies ≡ 0 → list_any is_full replies ≡ false) × ((n : ℕ) → count_by is_full replies ≡ suc n → list_any is_full replies ≡ true)
@@ -175,11 +177,24 @@ any_full (x ∷ replies) = by (is_full x) refl (any_full replies)
 -- the run of some lines that were read or drawn
 pub record HasLines (c : Choice) (told : Option (List ℕ)) (trace : List Vector) (replies : List Reply) (drawn : Option (List ℕ)) (stats : Option Stats) (history : History) : Type 0 where
   pub inserts : is_check c.job ≡ false
-  pub some : 0 < c.workers
+  pub valid : IsValid c
   pub read : IsTraceFor c told c.job trace
   pub shared : IsSharing c (length trace) drawn
   pub agrees : AgreesOwned (flag_count c.profile) (owner_of c drawn) trace replies c.workers [] history (range_with_len 0 c.workers)
   pub of_mode : IsOfMode c.mode c trace replies history stats
+
+-- a text that was written is no answer to an input
+not_of_input : (status : Status) → is_printed status ≡ true → is_of_input status ≡ true → ⊥
+not_of_input s.Done printed of = cc of
+not_of_input s.Full printed of = cc of
+not_of_input s.Refuted printed of = cc of
+not_of_input s.Usage printed of = cc printed
+not_of_input s.BadTrace printed of = cc printed
+not_of_input s.TooMuch printed of = cc printed
+not_of_input s.ReadFault printed of = cc printed
+not_of_input s.WriteFault printed of = cc printed
+not_of_input s.NoMemory printed of = cc printed
+not_of_input s.BadReport printed of = cc printed
 
 module _ {S K : Type 0} (c : Choice) (source : SourceStep S) (sink : SinkStep K) (input : HasInput c source sink) where
   -- a run that wrote its whole text
@@ -193,6 +208,7 @@ module _ {S K : Type 0} (c : Choice) (source : SourceStep S) (sink : SinkStep K)
       refused_words = λ n. cc n;
       unread = λ u. absurd (other s.Usage u refl);
       drawn = input.drawn;
+      of_input = λ i. absurd (not_of_input (status_of ended) printed i);
       read_fault = λ r. absurd (other s.ReadFault r refl);
       gave = input.within (status_of ended) (λ t. other s.TooMuch t refl);
       bad_trace = λ b. absurd (other s.BadTrace b refl);
@@ -222,6 +238,7 @@ module _ {S K : Type 0} (c : Choice) (source : SourceStep S) (sink : SinkStep K)
       refused_words = λ n. cc n;
       unread = λ u. cc u;
       drawn = input.drawn;
+      of_input = λ i. cc i;
       read_fault = λ r. cc r;
       gave = input.within s.WriteFault (λ t. cc t);
       bad_trace = λ b. cc b;
@@ -249,7 +266,7 @@ module _ {S K : Type 0} (c : Choice) (source : SourceStep S) (sink : SinkStep K)
       history = history;
       stats = stats;
       chose = refl;
-      some = lines.some;
+      valid = lines.valid;
       read = lines.read;
       shared = lines.shared;
       agrees = lines.agrees;
@@ -302,11 +319,11 @@ module _ {S K : Type 0} (c : Choice) (source : SourceStep S) (sink : SinkStep K)
         wrote
 
   -- a run that wrote what its lines were answered
-  pub answered_end : (trace : List Vector) (answered : Answered) (are : AreAnswered c trace answered) → is_check c.job ≡ false → 0 < c.workers
+  pub answered_end : (trace : List Vector) (answered : Answered) (are : AreAnswered c trace answered) → is_check c.job ≡ false → IsValid c
       → IsTraceFor c (source.left source.old) c.job trace → (ended : Ended) → WritesAnswered c answered are.history sink ended → EndsAs (Some c) source sink ended
-  answered_end trace answered are inserts some read ended wrote =
+  answered_end trace answered are inserts valid read ended wrote =
       written trace answered.inserted.replies.items (drawn_of answered.inserted) answered.stats are.history
-      (record { inserts = inserts; some = some; read = read; shared = are.shared; agrees = are.agrees; of_mode = are.of_mode })
+      (record { inserts = inserts; valid = valid; read = read; shared = are.shared; agrees = are.agrees; of_mode = are.of_mode })
       wrote.text wrote.is_text ended wrote.written wrote.only wrote.settled wrote.fault
 
   module _ (checks : is_check c.job ≡ true) (verdict : Verdict) (judged : Judged c (source.left source.old) verdict) where

@@ -1,5 +1,5 @@
 -- An input that was read, and what is made of its bytes.
-use Rattle.std.proofs.Common.{◌≡◌, ◌<◌, ℕ, List, [], Option, Some, None, subst, sym, arith}
+use Rattle.std.proofs.Common.{◌≡◌, ◌≢◌, ◌<◌, ℕ, List, [], Option, Some, None, subst, sym, arith}
 use Rattle.std.specs.Prelude.{IfErr, IfOk, IfSome, Result, Ok, Err}
 use Rattle.run_check.specs.Cut.{IsWhole}
 use Rattle.run_check.specs.declared.verdict.Verdict.{Verdict}
@@ -70,10 +70,22 @@ pub if_ok : {T E : Type 0} {P Q : T → Type 0} (result : Result T E) → ((x : 
 if_ok (Ok x) f p = f x p
 if_ok (Err error) f p = p
 
+-- what is told of a result's error is told of all of them
+pub all_err : {T E : Type 0} {Q : E → Type 0} (result : Result T E) → ((x : E) → Q x) → IfErr result Q
+all_err (Ok x) f = tt
+all_err (Err error) f = f error
+
 -- lines that are drawn: the source gives nothing, and only memory can be wanting
 module _ {T : Type 0} (told : Option (List ℕ)) (result : Result T Ended) (refused : IfErr result (λ ended. ended ≡ e.NoMemory)) where
   no_other_end : (ended : Ended) → result ≡ Err ended → ended ≡ e.NoMemory
   no_other_end ended is = subst (λ (r : Result T Ended). IfErr r (λ x. x ≡ e.NoMemory)) is refused
+
+  pub drawn_reads : (P : Type 0) → IfErr result (λ ended. ended ≢ e.NoMemory → P)
+  drawn_reads P = by result refused
+    where
+      by : (result : Result T Ended) → IfErr result (λ ended. ended ≡ e.NoMemory) → IfErr result (λ ended. ended ≢ e.NoMemory → P)
+      by (Ok x) was = tt
+      by (Err ended) was = λ other. absurd (other was)
 
   pub drawn_gave : GaveWithin told told result
   drawn_gave = record {

@@ -20,7 +20,7 @@ module _ (offer : Option Choice) (told : Option (List ℕ)) (run : Run offer tol
   owner = owner_of run.choice run.drawn
 
   shared : AreShared (length run.trace) run.choice.workers owner
-  shared = shared-out run.choice (length run.trace) run.drawn run.some run.shared
+  shared = shared-out run.choice (length run.trace) run.drawn run.valid.in_range.workers.0 run.shared
 
   abbrev workers : List ℕ
   workers = range_with_len 0 run.choice.workers

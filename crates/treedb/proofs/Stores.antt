@@ -35,6 +35,9 @@ use Rattle.treedb.specs.declared.distinct.ReadBack.{ReadBack}
 use Rattle.treedb.specs.declared.insertion.Inserted.{Inserted}
 use Rattle.treedb.proofs.NewLemmas.{new-named, read-back, read-renamed}
 use Rattle.treedb.proofs.SharingLemmas.{shared-out}
+use Rattle.treedb.proofs.RoomLemmas.{buckets_for, none_is_full, of_new_store}
+use Rattle.treedb.specs.Room.{HaveRoom}
+use Rattle.pair_rule.specs.Paths.{node_buckets}
 
 -- the same nodes and roots house a history whose callers have other numbers
 housed_renamed : (about : About) (house : List (ℕ × ℕ) → Type 0) (nodes roots : List (ℕ × ℕ)) (f : ℕ → ℕ) (h : History) → Housed about house nodes roots h → Housed about house nodes roots (renamed f h)
@@ -119,6 +122,15 @@ module _ {T : Type 0} (part : Part T) (c : Choice) (trace : List Vector) (made :
       let most = few_puts store.about trace replies owner c.workers shared in
       omega (arith, probed, inserted.done.ran.probes, none, most)
 
+  -- with room for all lines none is full
+  never_full_run : HaveRoom c.mode store.about.slots (length trace) inserted.about_is.sizes → list_any is_full replies ≡ false
+  never_full_run room =
+      let about = store.about in
+      let is = inserted.about_is in
+      let new = of_new_store (view inserted.first) inserted.unknown about inserted.begins inserted.whole in
+      let nodes = buckets_for (node_buckets about) ((about.slots - 2) * length trace) is.sizes.nodes is.sizes.probe is.nodes is.probe is.is_about.range.least_nodes room.nodes in
+      none_is_full replies (inserted.done.ran.enough_nodes new nodes) (inserted.enough_roots room.roots)
+
   counts_run : (s : Stats) → CountsOf part store.about (view last) s → Counts part store.about (length trace) (view last).known replies s
   counts_run s k = record {
     indexes = (view last).made;
@@ -148,6 +160,7 @@ module _ {T : Type 0} (part : Part T) (c : Choice) (trace : List Vector) (made :
         (subst (λ (a : About). Housed a (part.house a) (view last).known (root_pairs part (view last)) (view last).seen) rests.seat.about_is all.housed);
     filled = filled_run;
     barred = inserted.done.ran.full;
+    never_full = never_full_run;
     named = named_run;
     counts = told_so c.stats stats (CountsOf part store.about (view last)) (Counts part store.about (length trace) (view last).known replies) counts_run told;
   }

@@ -4,6 +4,7 @@ use Rattle.tdb_base.specs.Agrees.{entries_of_insertion}
 use Rattle.tdb_base.specs.History.{Vector, History}
 use Rattle.tdb_base.specs.Lines.{owned}
 use Rattle.tdb_base.specs.declared.reply.Reply.{Reply}
+use Rattle.tdb_base.specs.declared.reply.Reply.TheVariants as r
 use Rattle.pair_rule.specs.declared.pass.PassOf.{PassOf}
 use Rattle.pair_rule.specs.declared.sizes.About.{About}
 use Rattle.pair_rule.specs.declared.sizes.Sizes.{Sizes}
@@ -14,6 +15,7 @@ use Rattle.root_plain.specs.Plain.{RootsFit}
 use Rattle.region_root.specs.Layout.{CellsFit, RegionFits}
 use Rattle.tree_store.specs.Ranges.{NodesFit, ProbeFits, IsFirstOut}
 use Rattle.tree_store.specs.Vectors.{IsVector}
+use Rattle.work_run.specs.Enough.{NeverAnswered}
 use Rattle.work_run.specs.Ran.{HasRunOver}
 use Rattle.trace_csv.specs.declared.report.Stats.{Stats}
 use Rattle.command_line.specs.Sizes.{AreTableSizes}
@@ -21,6 +23,7 @@ use Rattle.command_line.specs.declared.outcome.Choice.{Choice}
 use Rattle.command_line.specs.declared.outcome.Mode.TheVariants.{Compact}
 use Rattle.command_line.specs.declared.table.TableSizes.{TableSizes}
 use Rattle.treedb.specs.ReadBack.{AwaitsLines, IfPrinted}
+use Rattle.treedb.specs.Room.{HasRootRoom}
 use Rattle.treedb.specs.Run.{IsOfMode}
 use Rattle.treedb.specs.Sharing.{IsSharing, drawn_of, owner_of}
 use Rattle.treedb.specs.Stored.{IsAboutChoice, InStore}
@@ -80,4 +83,6 @@ pub record AreInserted {T : Type 0} (part : Part T) (c : Choice) (trace : List V
   pub unknown : T
   pub begins : view first ≡ newcomer unknown store.about
   pub whole : Whole (view first)
+  pub enough_roots : HasRootRoom c.mode about_is.sizes (length trace)
+      → NeverAnswered made.replies.items r.FullRoots
   pub done : HasInserted part c store.about trace first last made

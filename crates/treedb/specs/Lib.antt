@@ -1,5 +1,6 @@
 pub mod Chosen
 pub mod Lines
+pub mod Room
 pub mod Check
 pub mod Stored
 pub mod ReadBack

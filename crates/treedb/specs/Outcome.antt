@@ -18,7 +18,8 @@ use Rattle.trace_csv.specs.Input.{limit}
 use Rattle.trace_csv.specs.Output.{TakesFront}
 use Rattle.treedb.specs.Note.{has_note, note_text, status_of}
 use Rattle.treedb.specs.Reading.{EndsReading}
-use Rattle.treedb.specs.Run.{GivesWithin, Headline, OfPrinted, Prints, PrintsFront, is_printed, reads_to_end}
+use Rattle.treedb.specs.Room.{HasAutomaticSizes, HasRoomFor, IsTraceWithin}
+use Rattle.treedb.specs.Run.{GivesWithin, Headline, OfPrinted, Prints, PrintsFront, is_printed, reads_to_end, is_of_input}
 use Rattle.treedb.specs.declared.ended.Ended.{Ended}
 use Rattle.treedb.specs.declared.ended.Ended.TheVariants as e
 
@@ -90,6 +91,7 @@ pub record Outcome {S K : Type 0} (offer : Option Choice) (source : SourceStep S
       → IfSome offer (λ c. is_reader c.job ≡ true → IsAtEnd (source.left source.new))
   pub unread : status ≡ s.Usage → source.new ≡ source.old
   pub drawn : IfSome offer (λ c. is_reader c.job ≡ false → source.new ≡ source.old)
+  pub of_input : is_of_input status ≡ true → IfSome offer (λ c. is_reader c.job ≡ true)
   pub read_fault : status ≡ s.ReadFault → Rose (source.faults source.old) (source.faults source.new)
   pub gave : GivesWithin (source.left source.old) (source.left source.new) status
   pub bad_trace : status ≡ s.BadTrace
@@ -111,7 +113,17 @@ IsComplete offer source sink status = (Rose (source.faults source.old) (source.f
     → IfSome offer (λ c. IfSome (source.left source.old) (λ bytes. length bytes ≤ limit
     → IsValidInput c.job c bytes → (is_printed status ≡ true) ⊎ (status ≡ s.NoMemory)))
 
--- the same, and what is told beside the status
+-- where nothing failed, and a valid input, or what is drawn, has lines of which this holds, all of them were
+-- inserted, or memory ran out
+abbrev pub IsDoneWhere : {S K : Type 0} → (Choice → List Vector → Type 0) → Option Choice → SourceStep S
+    → SinkStep K → Status → Type 0
+IsDoneWhere Holds offer source sink status =
+    (Rose (source.faults source.old) (source.faults source.new) → ⊥)
+    → (Rose (sink.faults sink.old) (sink.faults sink.new) → ⊥)
+    → IfSome offer (λ c. (trace : List Vector) → IsTraceWithin c (source.left source.old) trace
+    → Holds c trace → (status ≡ s.Done) ⊎ (status ≡ s.NoMemory))
+
+-- the outcome, and what is told beside the status
 pub record EndsAs {S K : Type 0} (offer : Option Choice) (source : SourceStep S) (sink : SinkStep K)
     (ended : Ended) : Type 0 where
   pub outcome : Outcome offer source sink (status_of ended)
@@ -142,6 +154,9 @@ pub record RunEnds {S K N : Type 0} (offer : Option Choice) (source : SourceStep
   pub outcome : Outcome offer source sink status
   -- that a run of a valid input comes through follows from it
   pub complete : IsComplete offer source sink status
+  -- and that none of its lines is full where the tables have room for all of them, as automatic ones do
+  pub done_with_room : IsDoneWhere HasRoomFor offer source sink status
+  pub done_by_default : IsDoneWhere (λ c trace. HasAutomaticSizes c) offer source sink status
   -- the note of the end, which is handed on whole; there is none for `Done` and `Refuted`
   pub note : IsNote offer source sink notes status
   pub note_settled : has_note status ≡ true → (Rose (notes.faults notes.old) (notes.faults notes.new) → ⊥)

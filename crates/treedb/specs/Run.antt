@@ -20,6 +20,7 @@ use Rattle.trace_csv.specs.Output.{TakesFront}
 use Rattle.trace_csv.specs.Report.{summary_of, summary_text}
 use Rattle.trace_csv.specs.Sorted.{IsSortedText}
 use Rattle.trace_csv.specs.declared.report.Stats.{Stats}
+use Rattle.command_line.specs.Valid.{IsValid}
 use Rattle.command_line.specs.declared.outcome.Job.{Job}
 use Rattle.command_line.specs.declared.outcome.Job.TheVariants.{Insert, Distinct, Bench, Check}
 use Rattle.command_line.specs.declared.outcome.Mode.{Mode}
@@ -42,6 +43,19 @@ is_printed s.WriteFault = false
 is_printed s.NoMemory = false
 is_printed s.BadReport = false
 is_printed s.Refuted = true
+
+-- what came of the input, or of its source, is the answer
+abbrev pub is_of_input : Status → Bool
+is_of_input s.Done = false
+is_of_input s.Full = false
+is_of_input s.BadTrace = true
+is_of_input s.WriteFault = false
+is_of_input s.Usage = false
+is_of_input s.TooMuch = true
+is_of_input s.ReadFault = true
+is_of_input s.NoMemory = false
+is_of_input s.BadReport = true
+is_of_input s.Refuted = false
 
 -- the run read its input to the end, if it reads one
 abbrev pub reads_to_end : Status → Bool
@@ -78,7 +92,7 @@ pub record Run (offer : Option Choice) (told : Option (List ℕ)) : Type 0 where
   pub history : History
   pub stats : Option Stats
   pub chose : offer ≡ Some choice
-  pub some : 0 < choice.workers
+  pub valid : IsValid choice
   pub read : IsTraceFor choice told choice.job trace
   pub shared : IsSharing choice (length trace) drawn
   pub agrees : AgreesOwned (flag_count choice.profile) (owner_of choice drawn) trace replies choice.workers

@@ -18,6 +18,7 @@ use Rattle.command_line.specs.Sizes.{AreTableSizes}
 use Rattle.command_line.specs.declared.outcome.Choice.{Choice}
 use Rattle.command_line.specs.declared.table.TableSizes.{TableSizes}
 use Rattle.treedb.specs.Chosen.{flag_count}
+use Rattle.treedb.specs.Room.{HaveRoom}
 
 -- what the tables of a choice are about, for these lines: the profile, the lines' slots, and the sizes that
 -- the words give or the least that suffice
@@ -59,7 +60,7 @@ NodesAreNamed about nodes h = (index pair : ℕ) → Has (index, pair) nodes
     → (v : Vector) × (id : ℕ) × (name_of h v ≡ Some id) × IsInTree about nodes v index
 
 -- the store at the end of a run: its nodes and roots house the history, its nodes come of the lines, and a
--- line is full only where a pair of its tree has no place
+-- line is full only where a pair of its tree has no place, and none where the tables have room for all
 pub record InStore {T : Type 0} (part : Part T) (c : Choice) (trace : List Vector) (replies : List Reply)
     (h : History) (stats : Option Stats) : Type 0 where
   pub about : About
@@ -70,5 +71,7 @@ pub record InStore {T : Type 0} (part : Part T) (c : Choice) (trace : List Vecto
   pub filled : AreOfVectors about nodes trace
   pub barred : (i : ℕ) (v : Vector) (reply : Reply) → slice_get trace i ≡ Some v
       → slice_get replies i ≡ Some reply → Barred part about nodes roots v reply
+  pub never_full : HaveRoom c.mode about.slots (length trace) about_is.sizes
+      → list_any is_full replies ≡ false
   pub named : list_any is_full replies ≡ false → NodesAreNamed about nodes h
   pub counts : AreTold c.stats stats (Counts part about (length trace) nodes replies)

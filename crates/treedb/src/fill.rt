@@ -76,7 +76,7 @@ fn fill_plain<R: Threads + Sync, G: Gate, const W: u32, const F: u32>(
     gate: &G,
 ) -> Result<Answered, NoMemory>
     requires valid { IsValid choice.now }
-    requires of_mode { IsPartFor plain choice.now }
+    requires plain { choice.now.mode ≡ Mode.Plain }
     requires ready { AwaitsTrace plain choice.now trace.now store.now pass.old room }
     ensures answered { IfOk result (AreAnswered choice.now trace.now) }
     ensures refused { OnErr result (Unused pass.old pass.new) }
@@ -119,7 +119,8 @@ fn fill_compact<R: Threads + Wait + Sync, G: Gate, const W: u32, const F: u32>(
     gate: &G,
 ) -> Result<Answered, NoMemory>
     requires valid { IsValid choice.now }
-    requires of_mode { IsPartFor (compact W F) choice.now }
+    requires compact { choice.now.mode ≡ Mode.Compact }
+    requires profile { (choice.now.profile ≡ W) × (F ≡ flag_count W) }
     requires ready { AwaitsTrace (compact W F) choice.now trace.now store.now pass.old room }
     ensures answered { IfOk result (AreAnswered choice.now trace.now) }
     ensures refused { OnErr result (Unused pass.old pass.new) }

@@ -1,5 +1,5 @@
 //! The input of a run: its bytes, and the lines that they write, or that are drawn.
-ghost use Rattle.std.specs.Prelude.{◌≡◌, ◌≤◌, ◌<◌, ◌^◌, ◌⊎◌, ℕ, List, false, true, All, IfOk, IfErr, IfSome, OnOk};
+ghost use Rattle.std.specs.Prelude.{◌≡◌, ◌≢◌, ◌≤◌, ◌<◌, ◌^◌, ◌⊎◌, ℕ, List, false, true, All, IfOk, IfErr, IfSome, OnOk};
 ghost use Rattle.std.specs.Prelude.{Ok, Err, Some, length, vec_len};
 ghost use Rattle.std.specs.Io.KnownBytes.{IsAtEnd};
 ghost use Rattle.tdb_base.specs.Causes.{Rose};
@@ -106,6 +106,7 @@ pub fn take_lines<S: Source>(alloc: Global, choice: &Choice, source: &mut S) -> 
     ensures gave { GaveWithin (S.left source.old) (S.left source.new) result }
     ensures fault { result ≡ Err Ended.ReadFault → Rose (S.faults source.old) (S.faults source.new) }
     ensures refused { IfErr result (EndsReading choice.now (S.left source.old)) }
+    ensures reads { IfErr result (λ ended. ended ≢ Ended.NoMemory → is_reader choice.now.job ≡ true) }
     ensures end { is_reader choice.now.job ≡ true → ReadsToEnd result → IsAtEnd (S.left source.new) }
     ensures drawn { is_reader choice.now.job ≡ false → source.new ≡ source.old }
 {

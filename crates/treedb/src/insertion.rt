@@ -1,10 +1,13 @@
 //! The lines of a trace are inserted into a store, in blocks that are dealt out to the workers, or that they
 //! draw.
 ghost use Rattle.std.specs.Prelude.{◌≡◌, ◌≤◌, ◌^◌, All, IfOk, OnErr, length};
-ghost use Rattle.pair_rule.specs.Rest.{AtRest};
+ghost use Rattle.pair_rule.specs.Paths.{root_buckets};
+ghost use Rattle.pair_rule.specs.Rest.{AtRest, view};
 ghost use Rattle.region_root.specs.Compact.{compact};
+ghost use Rattle.region_root.specs.Layout.{most};
 ghost use Rattle.root_plain.specs.Plain.{plain};
 ghost use Rattle.tree_store.specs.Vectors.{IsVector};
+ghost use Rattle.work_run.specs.Enough.{HasBucketsFor, NoRootIsFull};
 ghost use Rattle.work_run.specs.Workers.{Unused};
 ghost use Rattle.command_line.specs.Valid.{IsValid};
 ghost use Rattle.treedb.specs.Filling.{HasInserted};
@@ -54,6 +57,8 @@ pub fn insert_plainly<R: Threads + Sync, G: Gate, const W: u32, const F: u32>(
     ensures rest { AtRest plain store.now pass.new }
     ensures inserted { IfOk result
         (HasInserted plain choice.now store.now.about trace.now pass.old pass.new) }
+    ensures enough_roots { IfOk result (λ made. NoRootIsFull (view pass.old)
+        (HasBucketsFor (length trace.now) (root_buckets store.now.about)) made.replies.items) }
     ensures refused { OnErr result (Unused pass.old pass.new) }
 {
     let workers = choice.workers;
@@ -89,6 +94,8 @@ pub fn insert_waiting<R: Threads + Wait + Sync, G: Gate, const W: u32, const F: 
     ensures rest { AtRest (compact W F) store.now pass.new }
     ensures inserted { IfOk result
         (HasInserted (compact W F) choice.now store.now.about trace.now pass.old pass.new) }
+    ensures enough_roots { IfOk result (λ made. NoRootIsFull (view pass.old)
+        (length trace.now ≤ most store.now.about) made.replies.items) }
     ensures refused { OnErr result (Unused pass.old pass.new) }
 {
     let workers = choice.workers;

@@ -17,4 +17,4 @@ pub returns-in-Err : goal.returns-in-Err
 returns-in-Err g c =
     let read = c.in-Err.ensures in
     stopped c.args.choice.now _ _ c.in-Err.ended (Err c.in-Err.ended) refl refl read.refused read.gave read.fault (λ r. read.end)
-    (λ no. let reads = ap is_reader c.requires.job in cc (no, reads))
+    (λ no. let reads = ap is_reader c.requires.job in cc (no, reads)) (λ other. ap is_reader c.requires.job)

@@ -8,4 +8,4 @@ make_ready-requires g c =
 
 pub fill_compact-requires : goal.fill_compact-requires
 fill_compact-requires g c =
-    (search rules, (search rules, (search rules, (search rules, (c.requires.valid, (compact_part g.row.W g.row.F c.args.choice.now c.requires.profile c.requires.compact, c.in_ok-store.ensures))))))
+    (search rules, (search rules, (search rules, (search rules, (c.requires.valid, (c.requires.compact, (c.requires.profile, c.in_ok-store.ensures)))))))

@@ -8,4 +8,4 @@ make_ready-requires g c =
 
 pub fill_plain-requires : goal.fill_plain-requires
 fill_plain-requires g c =
-    (search rules, (search rules, (search rules, (search rules, (c.requires.valid, (plain_part c.args.choice.now c.requires.plain, c.in_ok-store.ensures))))))
+    (search rules, (search rules, (search rules, (search rules, (c.requires.valid, (c.requires.plain, c.in_ok-store.ensures))))))

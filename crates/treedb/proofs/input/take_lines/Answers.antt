@@ -1,8 +1,8 @@
-use Rattle.std.proofs.Common.{◌≡◌, ◌≢◌, refl, rules, ap}
+use Rattle.std.proofs.Common.{◌≡◌, ◌≢◌, refl, rules, ap, true}
 use Rattle.command_line.specs.declared.outcome.Job.TheVariants.{Bench}
 use Rattle.treedb.specs.Lines.{is_reader}
 use Rattle.treedb.proofs.LineLemmas.{reads, reads_trace, reads_whole}
-use Rattle.treedb.proofs.ReadingLemmas.{drawn_gave, drawn_no_fault, drawn_refused, drawn_trace, if_ok}
+use Rattle.treedb.proofs.ReadingLemmas.{all_err, drawn_gave, drawn_no_fault, drawn_reads, drawn_refused, drawn_trace, if_ok}
 use Rattle.treedb.proofs.input.take_lines.Goals as goal
 
 pub returns-then-eq : goal.returns-then-eq
@@ -18,6 +18,7 @@ returns-then-eq g c =
       gave = drawn_gave told c.draw_lines.result drawn.refused;
       fault = λ is. absurd (drawn_no_fault told c.draw_lines.result drawn.refused is);
       refused = drawn_refused choice told c.draw_lines.result drawn.refused;
+      reads = drawn_reads told c.draw_lines.result drawn.refused (is_reader choice.job ≡ true);
       end = λ r. (let no = ap is_reader job in cc (r, no));
       drawn = λ no. refl;
     }
@@ -40,6 +41,7 @@ returns g c =
       gave = read.gave;
       fault = read.fault;
       refused = read.refused;
+      reads = all_err c.read_lines.result (λ ended other-end. reads choice.job c.requires.inserts other);
       end = λ r. read.end;
       drawn = λ no. (let yes = reads choice.job c.requires.inserts other in cc (no, yes));
     }

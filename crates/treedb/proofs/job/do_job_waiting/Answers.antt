@@ -14,7 +14,7 @@ take_lines-requires g c =
 pub returns-in-Err : goal.returns-in-Err
 returns-in-Err g c =
     let taken = c.in-Err.ensures in
-    stopped c.args.choice.now _ _ c.in-Err.ended (Err c.in-Err.ended) refl refl taken.refused taken.gave taken.fault taken.end taken.drawn
+    stopped c.args.choice.now _ _ c.in-Err.ended (Err c.in-Err.ended) refl refl taken.refused taken.gave taken.fault taken.end taken.drawn taken.reads
 
 pub returns-in_default : goal.returns-in_default
 returns-in_default g c =
@@ -41,4 +41,4 @@ returns g c =
     let taken = c.in-Ok.ensures in
     let answered = c.in-Ok-insert_lines_waiting.ensures in
     answered_end choice _ _ (has_input choice _ _ trace (Ok trace) refl taken.gave (λ r. taken.end r tt) taken.drawn) trace c.in-Ok-insert_lines_waiting.answered answered
-    (not_check choice.job other) c.requires.valid.in_range.workers.0 taken.lines c.write_answered.result (c.write_answered.ensures answered.history answered.vectors)
+    (not_check choice.job other) c.requires.valid taken.lines c.write_answered.result (c.write_answered.ensures answered.history answered.vectors)
