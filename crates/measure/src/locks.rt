@@ -2,6 +2,7 @@
 ghost use Rattle.std.specs.Prelude.{◌≡◌, ◌≤◌, true, All};
 ghost use Rattle.tree_store.specs.Vectors.{IsVector};
 
+use crate::input::{FLAGS, WIDTH, all_fit, read_input};
 use pair_rule::Sizes;
 use region_root::locks_taken;
 use std::alloc::Global;
@@ -9,31 +10,14 @@ use std::io;
 use std::process::ExitCode;
 use std::sync::Wait;
 use std::thread::Threads;
-use tdb_base::{NoGate, StdSource};
-use trace_csv::{Trace, read_all, read_trace};
+use tdb_base::NoGate;
+use trace_csv::Trace;
 use tree_shape::Shape;
 use tree_store::CompactStore;
 use work_run::run_lines_waiting;
 
-// The bits of a slot, and the flags of a vector.
-const WIDTH: u32 = 28;
-
-const FLAGS: u32 = 7;
-
 // The lines of a block that a worker is dealt.
 const BLOCK: u64 = 64;
-
-// Whether the store can keep each line of the trace.
-fn all_fit(store: &CompactStore<WIDTH, FLAGS>, trace: &Trace) -> bool
-    ensures { result ≡ true → All (IsVector store.now.about) trace.now }
-{
-    for i in 0..trace.len() {
-        if !store.fits(trace.line(i)) {
-            return false;
-        }
-    }
-    true
-}
 
 // How often a lock was taken, and how many vectors have a name, after so many workers inserted the trace into
 // a new store; None where it has no room or memory.
@@ -71,16 +55,10 @@ pub fn count<H: Threads + Wait + Sync>(
 ) -> io::Result<ExitCode>
     requires { (1 ≤ workers) × (workers ≤ 64) }
 {
-    let alloc = rt.alloc();
-    let Ok(bytes) = read_all(alloc, &mut StdSource::new(rt.reader())) else {
-        eprintln!(rt; "measure: the input was not read")?;
+    let Some(trace) = read_input(rt)? else {
         return Ok(ExitCode::from(1));
     };
-    let Ok(trace) = read_trace(alloc, &bytes, WIDTH) else {
-        eprintln!(rt; "measure: the input is no trace")?;
-        return Ok(ExitCode::from(1));
-    };
-    let Some((locks, names)) = insert(handle, alloc, &trace, sizes, workers) else {
+    let Some((locks, names)) = insert(handle, rt.alloc(), &trace, sizes, workers) else {
         eprintln!(rt; "measure: a line had no room, or memory ran out")?;
         return Ok(ExitCode::from(1));
     };

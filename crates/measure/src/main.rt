@@ -6,7 +6,9 @@ ghost use Rattle.measure.specs.Asked.{IsAsked};
 
 mod callers;
 mod calls;
+mod claims;
 mod clock;
+mod input;
 mod locks;
 mod nodes;
 mod read_trace;
@@ -50,6 +52,7 @@ fn time<H: Threads + Wait + Sync>(
         "region" => time_region(rt, words),
         "roots" => time_roots(rt, handle, words),
         "locks" => count_locks(rt, handle, words),
+        "claims" => time_claims(rt, handle, words),
         _ => Ok(None),
     }
 }
@@ -158,4 +161,25 @@ fn count_locks<H: Threads + Wait + Sync>(
         probe: 4_194_304,
     };
     Ok(Some(locks::count(rt, handle, &sizes, workers)?))
+}
+
+fn time_claims<H: Threads + Sync>(
+    rt: &HostRuntime,
+    handle: &H,
+    words: &[String],
+) -> io::Result<Option<ExitCode>> {
+    let Some(workers) = number(words, 2, 1, 64, 4) else {
+        return Ok(None);
+    };
+    let Some(block) = number(words, 3, 1, 65536, 64) else {
+        return Ok(None);
+    };
+    let Some(rounds) = number(words, 4, 1, 1000, 1) else {
+        return Ok(None);
+    };
+    if words.len() > 5 {
+        return Ok(None);
+    }
+    let sharing = claims::Sharing { workers, block };
+    Ok(Some(claims::time(rt, handle, sharing, rounds)?))
 }

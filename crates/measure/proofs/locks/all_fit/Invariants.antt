@@ -1,6 +1,0 @@
-use Rattle.std.specs.Prelude.{ℕ, List, ◌≡◌, ◌<◌, Some, slice_get}
-use Rattle.tree_store.specs.Vectors.{IsVector}
-use Rattle.measure.proofs.locks.all_fit.Given as goal
-
-abbrev pub invariant-loop-i : goal.invariant-loop-i
-invariant-loop-i l = (k : ℕ) (line : List ℕ) → k < l.i → slice_get l.trace k ≡ Some line → IsVector l.store.about line
