@@ -124,6 +124,18 @@ check_drawn "a walk of 100,000 lines, drawn by 8 workers" "$work/walk.csv" 8 64 
 check_drawn "a walk of 100,000 lines, drawn line by line by 64 workers" "$work/walk.csv" 64 1 insert
 check_drawn "the same in compact mode" "$work/walk.csv" 64 1 insert --mode compact
 
+awk 'BEGIN { x = 11; for (i = 0; i < 1000000; i++) { x = (x * 16807) % 2147483647; print x % 2003 "," int(x / 1000) % 499 } }' > "$work/million.csv"
+check_names "a million lines" "$work/million.csv" insert --workers 2
+rm "$work/million.csv"
+
+# Tables that have just room for a trace: 64 roots fill a region of 64 cells
+for ((i = 0; i < 64; i++)); do echo "0,$i"; done > "$work/64.csv"
+check_names "64 lines that fill a region of 64 cells, by 4 workers" "$work/64.csv" insert --mode compact --roots 6 --workers 4 --block 1
+check_names "the same in plain mode by 8 workers" "$work/64.csv" insert --profile 28 --workers 8
+bash checks/room.sh > "$work/got" 2>&1
+was=$?
+tell "$(tail -n 1 "$work/got")" "$([ $was -eq 0 ] && echo yes)" "$(head -n 3 "$work/got")"
+
 wants 'lines 100000\ndistinct 74191\n'
 check "drawn lines" 0 "" bench --lines 100000 --slots 32 --values 4 --seed 1 < /dev/null
 check "drawn lines by 8 workers" 0 "" bench --lines 100000 --slots 32 --values 4 --seed 1 --workers 8 < /dev/null

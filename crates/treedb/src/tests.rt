@@ -36,10 +36,11 @@ const SOUND: Devices = Devices {
     note: 0,
 };
 
-// What a run answered, and what its sink and its notes took.
+// What a run answered, what it left of its source, and what its sink and its notes took.
 #[derive(Drop)]
 struct Ran {
     status: Status,
+    source: MemSource,
     text: MemSink,
     notes: MemSink,
 }
@@ -78,6 +79,7 @@ fn run_on<R: Threads + Wait + Sync, G: Gate>(
     let status = run(rt, alloc, &words, &mut source, &mut text, &mut notes, gate);
     Ok(Ran {
         status,
+        source,
         text,
         notes,
     })
@@ -101,6 +103,7 @@ fn run_plain_on<R: Threads + Sync, G: Gate>(
     let status = run_plain(rt, alloc, &words, &mut source, &mut text, &mut notes, gate);
     Ok(Ran {
         status,
+        source,
         text,
         notes,
     })

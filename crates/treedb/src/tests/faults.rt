@@ -1,7 +1,8 @@
 //! Inputs and devices that fail.
-use super::{Devices, SOUND, run_on, run_plain_on};
+use super::{Devices, Ran, SOUND, run_on, run_plain_on, words_of};
+use crate::run::run;
 use std::test::Fail;
-use tdb_base::{NoGate, Status};
+use tdb_base::{NoGate, Sink, Source, Status, SureSink, SureSource};
 
 #[test]
 fn refuses_what_is_no_trace(rt: HostRuntime) -> Result<(), Fail> {
@@ -23,6 +24,10 @@ fn refuses_what_is_no_trace(rt: HostRuntime) -> Result<(), Fail> {
         ("268435456,0\n", "treedb: record 1 field 1 is too big\n"),
         ("1,,2\n", "treedb: record 1 field 2 is not a number\n"),
         (
+            "\"1,2\n",
+            "treedb: record 1 has 1 fields, 2 to 1024 are allowed\n",
+        ),
+        (
             "1,2\n00000000001,2\n",
             "treedb: record 2 field 1 is not a number\n",
         ),
@@ -43,45 +48,53 @@ fn refuses_what_is_no_trace(rt: HostRuntime) -> Result<(), Fail> {
     Ok(())
 }
 
+// A source of twelve bytes that gives one a call is read thirteen times: each read that fails ends the run, and
+// there is no fourteenth.
 #[test]
-fn tells_of_a_failing_source(rt: HostRuntime) -> Result<(), Fail> {
+fn tells_of_each_failing_read(rt: HostRuntime) -> Result<(), Fail> {
     let alloc = rt.alloc();
-    for read in 1..4 {
-        for mode in ["plain", "compact"] {
-            let words = ["insert", "--mode", mode];
+    for mode in ["plain", "compact"] {
+        let words = ["insert", "--mode", mode];
+        for read in 1..15 {
             let devices = Devices {
-                piece: 2,
+                piece: 1,
                 read,
                 ..SOUND
             };
-            let bytes = b"3,5\n".to_vec(alloc)?;
+            let bytes = b"3,5\n5,3\n3,5\n".to_vec(alloc)?;
             let ran = run_on(&rt, alloc, &words, bytes, devices, &NoGate)?;
-            assert_eq!(rt; ran.status, Status::ReadFault, "at read {read}");
-            assert!(rt; ran.text.bytes().is_empty());
-            assert_eq!(rt; ran.notes.bytes(), "treedb: read fault\n".as_bytes());
+            if read == 14 {
+                assert_eq!(rt; ran.status, Status::Done);
+                assert!(rt; ran.notes.bytes().is_empty());
+            } else {
+                assert_eq!(rt; ran.status, Status::ReadFault);
+                assert!(rt; ran.text.bytes().is_empty());
+                assert_eq!(rt; ran.notes.bytes(), "treedb: read fault\n".as_bytes());
+            }
         }
     }
     Ok(())
 }
 
+// A report of 35 bytes to a sink that takes one a call is written by 35 writes: each that fails ends the run, and
+// isn't tried again.
 #[test]
-fn tells_of_a_failing_sink(rt: HostRuntime) -> Result<(), Fail> {
+fn tells_of_each_failing_write(rt: HostRuntime) -> Result<(), Fail> {
     let alloc = rt.alloc();
     for (mode, text) in [
         ("plain", "1,4,new\nlines 1\ndistinct 1\n".as_bytes()),
         ("compact", b"1,805306373,new\nlines 1\ndistinct 1\n"),
     ] {
-        for write in 1..text.len() {
-            let words = ["insert", "--mode", mode];
+        let words = ["insert", "--mode", mode];
+        for write in 1..text.len() + 1 {
             let devices = Devices {
                 piece: 1,
                 write: write as u64,
                 ..SOUND
             };
-            let bytes = b"3,5\n".to_vec(alloc)?;
-            let ran = run_on(&rt, alloc, &words, bytes, devices, &NoGate)?;
-            assert_eq!(rt; ran.status, Status::WriteFault, "at write {write}");
-            assert_eq!(rt; ran.text.bytes(), &text[..write - 1], "at write {write}");
+            let ran = run_on(&rt, alloc, &words, b"3,5".to_vec(alloc)?, devices, &NoGate)?;
+            assert_eq!(rt; ran.status, Status::WriteFault);
+            assert_eq!(rt; ran.text.bytes(), &text[..write - 1]);
             assert_eq!(rt; ran.notes.bytes(), "treedb: write fault\n".as_bytes());
         }
     }
@@ -96,6 +109,73 @@ fn tells_of_a_failing_sink(rt: HostRuntime) -> Result<(), Fail> {
     let ran = run_on(&rt, alloc, &words, b"3,5".to_vec(alloc)?, devices, &NoGate)?;
     assert_eq!(rt; ran.status, Status::WriteFault);
     assert_eq!(rt; ran.text.bytes(), "1,80".as_bytes());
+
+    // A fault of the sink is the answer where lines are full, too.
+    let devices = Devices { write: 1, ..SOUND };
+    let words = ["insert", "--roots", "3"];
+    let input = b"0,0\n0,1\n0,2\n0,3\n0,4\n0,5\n0,6\n0,7\n0,8\n";
+    let ran = run_on(&rt, alloc, &words, input.to_vec(alloc)?, devices, &NoGate)?;
+    assert_eq!(rt; ran.status, Status::WriteFault);
+    assert!(rt; ran.text.bytes().is_empty());
+    Ok(())
+}
+
+// What comes first is the answer, and what stands behind it isn't called: a device whose first call fails
+// does so after the run.
+#[test]
+fn calls_nothing_behind_a_refusal(rt: HostRuntime) -> Result<(), Fail> {
+    let alloc = rt.alloc();
+    let devices = Devices {
+        read: 1,
+        write: 1,
+        ..SOUND
+    };
+    let words = ["insert", "--mode", "fast"];
+    let ran = run_on(&rt, alloc, &words, b"3,5\n".to_vec(alloc)?, devices, &NoGate)?;
+    assert_eq!(rt; ran.status, Status::Usage);
+    let Ran {
+        mut source,
+        mut text,
+        ..
+    } = ran;
+    assert!(rt; source.read(&mut [0; 1]).is_err());
+    assert!(rt; text.write(b"x").is_err());
+
+    let devices = Devices { write: 1, ..SOUND };
+    let ran = run_on(&rt, alloc, &["insert"], b"1,x".to_vec(alloc)?, devices, &NoGate)?;
+    assert_eq!(rt; ran.status, Status::BadTrace);
+    let Ran { mut text, .. } = ran;
+    assert!(rt; text.write(b"x").is_err());
+    Ok(())
+}
+
+// Devices that can't fail.
+#[test]
+fn needs_no_device_that_fails(rt: HostRuntime) -> Result<(), Fail> {
+    let alloc = rt.alloc();
+    for mode in ["plain", "compact"] {
+        let words = words_of(alloc, &["insert", "--mode", mode])?;
+        let mut source = SureSource::new(b"0,0\n".to_vec(alloc)?);
+        let mut text = SureSink::new();
+        let mut notes = SureSink::new();
+        let status = run(
+            &rt, alloc, &words, &mut source, &mut text, &mut notes, &NoGate,
+        );
+        assert_eq!(rt; status, Status::Done);
+    }
+    Ok(())
+}
+
+#[test]
+fn refuses_a_field_that_is_no_text(rt: HostRuntime) -> Result<(), Fail> {
+    let alloc = rt.alloc();
+    let ran = run_on(&rt, alloc, &["insert"], b"1,\xff\n".to_vec(alloc)?, SOUND, &NoGate)?;
+    assert_eq!(rt; ran.status, Status::BadTrace);
+    assert!(rt; ran.text.bytes().is_empty());
+    assert_eq!(rt;
+        ran.notes.bytes(),
+        "treedb: record 1 field 2 is not a number\n".as_bytes()
+    );
     Ok(())
 }
 
@@ -116,6 +196,11 @@ fn passes_over_failing_notes(rt: HostRuntime) -> Result<(), Fail> {
         assert!(rt; ran.text.bytes().is_empty());
         assert_eq!(rt; ran.notes.bytes(), &note[..(fault as usize - 1) * 3]);
     }
+    let devices = Devices { note: 1, ..SOUND };
+    let ran = run_on(&rt, alloc, &["insert"], Vec::new(alloc), devices, &NoGate)?;
+    assert_eq!(rt; ran.status, Status::BadTrace);
+    assert!(rt; ran.text.bytes().is_empty());
+    assert!(rt; ran.notes.bytes().is_empty());
     Ok(())
 }
 
