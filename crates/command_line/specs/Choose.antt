@@ -8,7 +8,7 @@ use Rattle.clap.specs.Words.{Kinds, Text, fault_of, first_of, matches_of}
 use Rattle.command_line.specs.Command.{simple_command}
 use Rattle.command_line.specs.Rules.{keeps_rules}
 use Rattle.command_line.specs.declared.outcome.Job.{Job}
-use Rattle.command_line.specs.declared.outcome.Job.TheVariants.{Insert, Distinct, Bench, Check}
+use Rattle.command_line.specs.declared.outcome.Job.TheVariants.{Insert, Distinct, Bench, Check, Mark}
 use Rattle.command_line.specs.declared.outcome.Mode.{Mode}
 use Rattle.command_line.specs.declared.outcome.Mode.TheVariants.{Plain, Compact}
 use Rattle.command_line.specs.declared.outcome.Choice.{Choice}
@@ -43,7 +43,8 @@ job_named t =
     if bytes_eq t (codes "insert") then Some Insert
     else (if bytes_eq t (codes "distinct") then Some Distinct
     else (if bytes_eq t (codes "bench") then Some Bench
-    else (if bytes_eq t (codes "check") then Some Check else None)))
+    else (if bytes_eq t (codes "check") then Some Check
+    else (if bytes_eq t (codes "mark") then Some Mark else None))))
 
 abbrev pub mode_named : Text → Option Mode
 mode_named t =
@@ -84,7 +85,13 @@ abbrev pub workers_of : Values → Option WorkerWords
 workers_of values =
     given (given (values (codes "workers")) (number_in 1 64)) (λ workers.
     given (given (values (codes "block")) (number_in 1 65536)) (λ block.
-    Some (record { workers = workers; block = block; claims = is_given (values (codes "claims")) })))
+    given (given (values (codes "flag")) (number_in 0 7)) (λ flag.
+    Some (record {
+      workers = workers;
+      block = block;
+      claims = is_given (values (codes "claims"));
+      flag = flag;
+    }))))
 
 abbrev pub tables_of : Values → Option TableWords
 tables_of values =
@@ -110,6 +117,7 @@ choice_with task workers tables bench = record {
   workers = workers.workers;
   block = workers.block;
   claims = workers.claims;
+  flag = workers.flag;
   nodes = tables.nodes;
   roots = tables.roots;
   region = tables.region;

@@ -35,12 +35,13 @@ task_words =
     ∷ flag_rule (codes "stats")
     ∷ []
 
--- how the lines are shared out
+-- how the lines are shared out, and how they are marked
 abbrev pub worker_words : List Rule
 worker_words =
     number_option (codes "workers") 1 64 (codes "1")
     ∷ number_option (codes "block") 1 65536 (codes "64")
     ∷ flag_rule (codes "claims")
+    ∷ number_option (codes "flag") 0 7 (codes "0")
     ∷ []
 
 -- the tables, and how far a path goes in them

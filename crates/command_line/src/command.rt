@@ -79,7 +79,8 @@ fn with_worker_words<'a>(alloc: Global, command: Command<'a>) -> Result<Command<
     let workers = command.arg(number_option(alloc, "workers", 1, 64, "1"))?;
     let block = workers.arg(number_option(alloc, "block", 1, 65536, "64"))?;
     let claims = block.arg(flag(alloc, "claims"))?;
-    Ok(claims)
+    let mark = claims.arg(number_option(alloc, "flag", 0, 7, "0"))?;
+    Ok(mark)
 }
 
 fn with_table_words<'a>(alloc: Global, command: Command<'a>) -> Result<Command<'a>, AllocError>

@@ -2,7 +2,7 @@
 
 /// The usage text, four lines that each end in LF.
 pub const USAGE: &str =
-    "usage: treedb insert|distinct|bench|check [--mode plain|compact] [--profile 16|28|31]\n  [--workers N] [--block N] [--nodes D] [--roots R] [--region S] [--probe P]\n  [--stats] [--lines N] [--slots K] [--values M] [--seed S]\n  [--claims]\n";
+    "usage: treedb insert|distinct|bench|check|mark [--mode plain|compact] [--profile 16|28|31]\n  [--workers N] [--block N] [--nodes D] [--roots R] [--region S] [--probe P]\n  [--stats] [--lines N] [--slots K] [--values M] [--seed S]\n  [--claims] [--flag B]\n";
 
 /// What the program does.
 #[derive(Clone, Copy, Debug, PartialEq, Eq)]
@@ -15,6 +15,8 @@ pub enum Job {
     Bench,
     /// Judges a report of a trace, and writes the verdict.
     Check,
+    /// Inserts the lines of a trace and sets a flag of each line's vector, and reports both.
+    Mark,
 }
 
 /// The kind of the root table.
@@ -42,6 +44,9 @@ pub struct Choice {
     /// Whether each worker draws its next block when it is through with the last, by default not: blocks are
     /// then dealt out in turn. It has an effect for `insert` and `bench`.
     pub claims: bool,
+    /// The number of the flag that `mark` sets: 0 to 7, by default 0, and for `mark` less than the profile has
+    /// flags.
+    pub flag: u32,
     /// The node table has two to this power buckets: 3 to 25 and at most `profile`, if given.
     pub nodes: Option<u32>,
     /// The root table has two to this power places: 3 to 24, if given, and in compact mode at least 6.

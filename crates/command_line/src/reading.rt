@@ -20,12 +20,13 @@ pub struct TaskWords {
     pub stats: bool,
 }
 
-/// How the lines are shared out.
+/// How the lines are shared out, and how they are marked.
 #[derive(Clone, Copy)]
 pub struct WorkerWords {
     pub workers: u64,
     pub block: u64,
     pub claims: bool,
+    pub flag: u32,
 }
 
 /// The tables, and how far a path goes in them.
@@ -61,6 +62,7 @@ fn job_named(text: &str) -> Option<Job>
         "distinct" => Some(Job::Distinct),
         "bench" => Some(Job::Bench),
         "check" => Some(Job::Check),
+        "mark" => Some(Job::Mark),
         _ => None,
     }
 }
@@ -165,15 +167,19 @@ fn task(matches: &ArgMatches) -> Option<TaskWords>
 
 fn workers(matches: &ArgMatches) -> Option<WorkerWords>
     ensures value { result ≡ workers_of (value_in matches.now) }
-    ensures range { IfSome result (λ w. IsFrom 1 64 w.workers × IsFrom 1 65536 w.block) }
+    ensures workers { IfSome result (λ w. IsFrom 1 64 w.workers) }
+    ensures block { IfSome result (λ w. IsFrom 1 65536 w.block) }
+    ensures flag { IfSome result (λ w. IsFrom 0 7 w.flag) }
 {
     let workers = number(matches, "workers", 1, 64)?;
     let block = number(matches, "block", 1, 65536)?;
     let claims = is_given(matches, "claims");
+    let flag = number(matches, "flag", 0, 7)?;
     Some(WorkerWords {
         workers,
         block,
         claims,
+        flag: flag as u32,
     })
 }
 
@@ -231,6 +237,7 @@ pub fn choice(matches: &ArgMatches) -> Option<Choice>
         workers: workers.workers,
         block: workers.block,
         claims: workers.claims,
+        flag: workers.flag,
         nodes: tables.nodes,
         roots: tables.roots,
         region: tables.region,

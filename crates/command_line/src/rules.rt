@@ -1,8 +1,9 @@
-//! The four further rules of the words.
+//! The five further rules of the words.
 
 ghost use Rattle.std.specs.Prelude.{◌≡◌, true};
 ghost use Rattle.std.specs.Bool.{OnTrue};
-ghost use Rattle.command_line.specs.Rules.{is_at_most, job_allows, keeps_rules, mode_allows};
+ghost use Rattle.command_line.specs.Rules.{flag_count, flag_fits_profile, is_at_most, job_allows};
+ghost use Rattle.command_line.specs.Rules.{keeps_rules, mode_allows};
 ghost use Rattle.command_line.specs.Rules.{nodes_fit_profile, region_fits_roots, roots_hold_a_region};
 ghost use Rattle.command_line.specs.Rules.{trace_is_small};
 ghost use Rattle.command_line.specs.Valid.{FitsTogether};
@@ -51,6 +52,23 @@ fn trace_is_small(choice: &Choice) -> bool
     choice.lines.saturating_mul(choice.slots as u64) <= MOST_VALUES
 }
 
+// How many flags a vector has, by the width of its slots.
+fn flag_count(profile: u32) -> u32
+    ensures { result ≡ flag_count profile }
+{
+    match profile {
+        16 => 8,
+        28 => 7,
+        _ => 1,
+    }
+}
+
+fn flag_fits_profile(choice: &Choice) -> bool
+    ensures { result ≡ flag_fits_profile choice.now }
+{
+    choice.flag < flag_count(choice.profile)
+}
+
 fn mode_allows(choice: &Choice) -> bool
     ensures { result ≡ mode_allows choice.now }
 {
@@ -65,6 +83,7 @@ fn job_allows(choice: &Choice) -> bool
 {
     match choice.job {
         Job::Bench => trace_is_small(choice),
+        Job::Mark => flag_fits_profile(choice),
         Job::Insert | Job::Distinct | Job::Check => true,
     }
 }

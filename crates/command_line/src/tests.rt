@@ -10,9 +10,9 @@ use std::test::Fail;
 // The names of a choice's values, and those that `insert` alone chooses: a word by its place among the words
 // that stand there, from 0, and a size that isn't given as 0.
 const NAMES: &str =
-    "job mode profile workers block claims nodes roots region probe stats lines slots values seed";
+    "job mode profile workers block claims flag nodes roots region probe stats lines slots values seed";
 
-const DEFAULTS: [u64; 15] = [0, 0, 28, 1, 64, 0, 0, 0, 0, 4194304, 0, 1000, 8, 4, 1];
+const DEFAULTS: [u64; 16] = [0, 0, 28, 1, 64, 0, 0, 0, 0, 0, 4194304, 0, 1000, 8, 4, 1];
 
 // The words that the text has between bars, with the program's name; none where it is empty.
 fn words_of(alloc: Global, text: &str) -> Result<Vec<String>, AllocError> {
@@ -40,15 +40,16 @@ fn value_of(text: &str) -> Result<u64, Fail> {
         "distinct" | "compact" | "on" => Ok(1),
         "bench" => Ok(2),
         "check" => Ok(3),
+        "mark" => Ok(4),
         _ => Ok(text.parse::<u64>()?),
     }
 }
 
 // The values with one of them changed.
-fn changed(values: [u64; 15], name: &str, value: u64) -> Result<[u64; 15], Fail> {
+fn changed(values: [u64; 16], name: &str, value: u64) -> Result<[u64; 16], Fail> {
     let mut values = values;
     for (i, other) in NAMES.split(' ').enumerate() {
-        if i < 15 && other == name {
+        if i < 16 && other == name {
             values[i] = value;
             return Ok(values);
         }
@@ -57,7 +58,7 @@ fn changed(values: [u64; 15], name: &str, value: u64) -> Result<[u64; 15], Fail>
 }
 
 // The defaults with the values changed that the text lists, as `mode compact`, between commas.
-fn expected(text: &str) -> Result<[u64; 15], Fail> {
+fn expected(text: &str) -> Result<[u64; 16], Fail> {
     let mut values = DEFAULTS;
     for change in text.split(',') {
         if let Some((name, value)) = change.split_once(' ') {
@@ -73,6 +74,7 @@ fn job_of(choice: &Choice) -> u64 {
         Job::Distinct => 1,
         Job::Bench => 2,
         Job::Check => 3,
+        Job::Mark => 4,
     }
 }
 
@@ -84,7 +86,7 @@ fn size_of(size: Option<u32>) -> u64 {
 }
 
 // The values of a choice, in the order of their names.
-fn values_of(choice: &Choice) -> [u64; 15] {
+fn values_of(choice: &Choice) -> [u64; 16] {
     [
         job_of(choice),
         u64::from(choice.mode == Mode::Compact),
@@ -92,6 +94,7 @@ fn values_of(choice: &Choice) -> [u64; 15] {
         choice.workers,
         choice.block,
         u64::from(choice.claims),
+        choice.flag as u64,
         size_of(choice.nodes),
         size_of(choice.roots),
         size_of(choice.region),
@@ -145,6 +148,13 @@ treedb|--claims|bench|--workers|4|--block|1024 => job bench,claims on,workers 4,
 treedb|distinct|--claims => job distinct,claims on
 treedb|check|--mode|compact|--claims => job check,mode compact,claims on
 treedb|distinct|--stats => job distinct,stats on
+treedb|mark => job mark
+treedb|mark|--flag|6|--mode|compact|--claims => job mark,flag 6,mode compact,claims on
+treedb|mark|--profile|16|--flag|7 => job mark,profile 16,flag 7
+treedb|mark|--profile|31|--flag|+00 => job mark,profile 31
+treedb|insert|--profile|31|--flag|7 => profile 31,flag 7
+treedb|bench|--flag=7 => job bench,flag 7
+treedb|mark|--lines|4194304|--slots|1024 => job mark,lines 4194304,slots 1024
 treedb|bench|--lines|1 => job bench,lines 1
 treedb|bench|--lines|4194304 => job bench,lines 4194304
 treedb|insert|--lines|4194304|--slots|1024 => lines 4194304,slots 1024
@@ -241,6 +251,16 @@ treedb|insert|--claim
 treedb|insert|--claims=true
 treedb|insert|--claims|on
 treedb|insert|--claims|--claims
+treedb|mark|--flag|7
+treedb|mark|--profile|31|--flag|1
+treedb|mark|--profile|16|--flag|8
+treedb|insert|--profile|16|--flag|8
+treedb|mark|--flag|-0
+treedb|mark|--flag|
+treedb|mark|--flag
+treedb|mark|--flag|0|--flag|0
+treedb|mark|--profile|16|--nodes|17
+treedb|marks
 treedb|bench|--lines|0
 treedb|bench|--lines|4194305
 treedb|bench|--lines|65536|--slots|1024
@@ -303,10 +323,10 @@ fn has_sizes(alloc: Global, row: &str) -> Result<bool, Fail> {
 
 // The usage text.
 const TOLD: &str = "\
-usage: treedb insert|distinct|bench|check [--mode plain|compact] [--profile 16|28|31]
+usage: treedb insert|distinct|bench|check|mark [--mode plain|compact] [--profile 16|28|31]
   [--workers N] [--block N] [--nodes D] [--roots R] [--region S] [--probe P]
   [--stats] [--lines N] [--slots K] [--values M] [--seed S]
-  [--claims]
+  [--claims] [--flag B]
 ";
 
 #[test]

@@ -52,7 +52,8 @@ fn kept(matches: &ArgMatches) -> Option<Choice>
 ///
 /// `Usage` comes exactly where the command doesn't take the words or a rule is broken: `--nodes` is at most
 /// the profile; in compact mode `--roots` is at least 6, and `--region` at most `--roots` where both are
-/// given; for `bench`, lines times slots is at most 33554432. `NoMemory` may come for any words.
+/// given; for `bench`, lines times slots is at most 33554432; for `mark`, `--flag` is less than the profile
+/// has flags (8, 7 or 1 at a width of 16, 28 or 31). `NoMemory` may come for any words.
 pub fn choose(alloc: Global, words: &[String]) -> Result<Choice, ChoiceError>
     ensures chosen { IfOk result (λ choice. chosen (map string_bytes words.now) ≡ Some choice) }
     ensures refused { result ≡ Err ChoiceError.Usage → chosen (map string_bytes words.now) ≡ None }

@@ -9,7 +9,7 @@ use Rattle.trace_csv.specs.Input.{limit}
 use Rattle.run_check.specs.Cut.{IsCut}
 use Rattle.run_check.proofs.Verdicts.{least-same}
 use Rattle.command_line.specs.declared.outcome.Job.{Job}
-use Rattle.command_line.specs.declared.outcome.Job.TheVariants.{Insert, Distinct, Bench, Check}
+use Rattle.command_line.specs.declared.outcome.Job.TheVariants.{Insert, Distinct, Bench, Check, Mark}
 use Rattle.command_line.specs.declared.outcome.Choice.{Choice}
 use Rattle.treedb.specs.Lines.{HasNoTrace, IsTraceText, read_lines}
 use Rattle.treedb.specs.Outcome.{HasNoReport, IsComplete, IsValidInput, Outcome, SinkStep, SourceStep}
@@ -25,6 +25,7 @@ gave_few bytes (Some rest) gave taken = (let long = ap (λ (x : List ℕ). lengt
 valid_trace : (c : Choice) (bytes : List ℕ) (job : Job) → c.job ≡ job → IsValidInput job c bytes → (text : List ℕ) → IsTraceText job bytes text → read_lines c text ≡ None → ⊥
 valid_trace c bytes Insert is valid text whole none = (let same = ap (λ (x : List ℕ). read_lines c x) (sym whole) ∙ none in let lines = valid.1 in cc (same, lines))
 valid_trace c bytes Distinct is valid text whole none = (let same = ap (λ (x : List ℕ). read_lines c x) (sym whole) ∙ none in let lines = valid.1 in cc (same, lines))
+valid_trace c bytes Mark is valid text whole none = (let same = ap (λ (x : List ℕ). read_lines c x) (sym whole) ∙ none in let lines = valid.1 in cc (same, lines))
 valid_trace c bytes Bench is valid text whole none = whole
 valid_trace c bytes Check is valid text cut none =
     let input = valid.2 in

@@ -17,7 +17,7 @@ use Rattle.tdb_base.specs.declared.reply.Status.TheVariants as s
 use Rattle.trace_csv.specs.declared.report.Stats.{Stats}
 use Rattle.command_line.specs.declared.outcome.Choice.{Choice}
 use Rattle.command_line.specs.declared.outcome.Job.{Job}
-use Rattle.command_line.specs.declared.outcome.Job.TheVariants.{Insert, Distinct, Bench, Check}
+use Rattle.command_line.specs.declared.outcome.Job.TheVariants.{Insert, Distinct, Bench, Check, Mark}
 use Rattle.command_line.specs.declared.outcome.Mode.{Mode}
 use Rattle.command_line.specs.declared.outcome.Mode.TheVariants.{Plain, Compact}
 use Rattle.treedb.specs.Chosen.{is_check}
@@ -46,6 +46,10 @@ one_trace c told Distinct trace other one within two = let bytes = within refl i
     let first = subst (λ (o : Option (List ℕ)). IsTraceFor c o Distinct trace) bytes.1 one in
     let second = subst (λ (o : Option (List ℕ)). IsTraceFor c o Distinct other) bytes.1 two in
     cc (first, second)
+one_trace c told Mark trace other one within two = let bytes = within refl in
+    let first = subst (λ (o : Option (List ℕ)). IsTraceFor c o Mark trace) bytes.1 one in
+    let second = subst (λ (o : Option (List ℕ)). IsTraceFor c o Mark other) bytes.1 two in
+    cc (first, second)
 one_trace c told Bench trace other one within two = one ∙ sym two
 one_trace c told Check trace other one within two = absurd one
 
@@ -53,12 +57,14 @@ one_trace c told Check trace other one within two = absurd one
 valid_input : (c : Choice) (bytes : List ℕ) (job : Job) (trace : List Vector) → IsTraceFor c (Some bytes) job trace → IsValidInput job c bytes
 valid_input c bytes Insert trace lines = (trace, lines)
 valid_input c bytes Distinct trace lines = (trace, lines)
+valid_input c bytes Mark trace lines = (trace, lines)
 valid_input c bytes Bench trace lines = tt
 valid_input c bytes Check trace lines = absurd lines
 
 inserts : (c : Choice) (told : Option (List ℕ)) (job : Job) (trace : List Vector) → IsTraceFor c told job trace → is_check job ≡ false
 inserts c told Insert trace lines = refl
 inserts c told Distinct trace lines = refl
+inserts c told Mark trace lines = refl
 inserts c told Bench trace lines = refl
 inserts c told Check trace lines = absurd lines
 
@@ -66,12 +72,14 @@ inserts c told Check trace lines = absurd lines
 read_of : (c : Choice) (bytes : List ℕ) (job : Job) (trace : List Vector) → is_reader job ≡ true → IsTraceFor c (Some bytes) job trace → trace_of (Unsigned c.profile) bytes ≡ Ok trace
 read_of c bytes Insert trace reads lines = lines_were c bytes trace lines
 read_of c bytes Distinct trace reads lines = lines_were c bytes trace lines
+read_of c bytes Mark trace reads lines = lines_were c bytes trace lines
 read_of c bytes Bench trace reads lines = cc reads
 read_of c bytes Check trace reads lines = absurd lines
 
 drawn_for : (c : Choice) (told : Option (List ℕ)) (job : Job) (trace : List Vector) → is_reader job ≡ false → IsTraceFor c told job trace → (job ≡ Bench) × (trace ≡ drawn_lines c)
 drawn_for c told Insert trace reads lines = cc reads
 drawn_for c told Distinct trace reads lines = cc reads
+drawn_for c told Mark trace reads lines = cc reads
 drawn_for c told Bench trace reads lines = (refl, lines)
 drawn_for c told Check trace reads lines = absurd lines
 

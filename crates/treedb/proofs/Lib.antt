@@ -1,5 +1,6 @@
 pub mod LineLemmas
 pub mod SharingLemmas
+pub mod Insertions
 pub mod ReadingLemmas
 pub mod RunLemmas
 pub mod NewLemmas

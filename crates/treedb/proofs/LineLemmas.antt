@@ -5,7 +5,7 @@ use Rattle.tdb_base.specs.History.{Vector}
 use Rattle.trace_csv.specs.Trace.{Unsigned, trace_of}
 use Rattle.trace_csv.specs.declared.refusal.TraceError.{TraceError}
 use Rattle.command_line.specs.declared.outcome.Job.{Job}
-use Rattle.command_line.specs.declared.outcome.Job.TheVariants.{Insert, Distinct, Bench, Check}
+use Rattle.command_line.specs.declared.outcome.Job.TheVariants.{Insert, Distinct, Bench, Check, Mark}
 use Rattle.command_line.specs.declared.outcome.Choice.{Choice}
 use Rattle.treedb.specs.Chosen.{is_check}
 use Rattle.treedb.specs.Lines.{IsTraceFor, IsTraceText, is_reader, lines_in, read_lines}
@@ -32,12 +32,14 @@ reads Insert inserts other = refl
 reads Distinct inserts other = refl
 reads Bench inserts other = absurd (other refl)
 reads Check inserts other = cc inserts
+reads Mark inserts other = refl
 
 pub reads_whole : (job : Job) → is_check job ≡ false → job ≢ Bench → (bytes : List ℕ) → IsTraceText job bytes bytes
 reads_whole Insert inserts other bytes = refl
 reads_whole Distinct inserts other bytes = refl
 reads_whole Bench inserts other bytes = absurd (other refl)
 reads_whole Check inserts other bytes = cc inserts
+reads_whole Mark inserts other bytes = refl
 
 pub reads_trace : (c : Choice) (told : Option (List ℕ)) (trace : List Vector) (job : Job) → is_check job ≡ false → job ≢ Bench
     → IfSome told (λ bytes. read_lines c bytes ≡ Some trace) → IsTraceFor c told job trace
@@ -45,9 +47,11 @@ reads_trace c told trace Insert inserts other lines = lines
 reads_trace c told trace Distinct inserts other lines = lines
 reads_trace c told trace Bench inserts other lines = absurd (other refl)
 reads_trace c told trace Check inserts other lines = cc inserts
+reads_trace c told trace Mark inserts other lines = lines
 
 pub not_check : (job : Job) → job ≢ Check → is_check job ≡ false
 not_check Insert other = refl
 not_check Distinct other = refl
 not_check Bench other = refl
 not_check Check other = absurd (other refl)
+not_check Mark other = refl

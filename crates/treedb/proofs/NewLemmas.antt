@@ -4,7 +4,6 @@ use Rattle.std.proofs.lemmas.Option.{slice_get-get_or, slice_get_within}
 use Rattle.std.proofs.lemmas.List.Kept.{AllPairs-cons}
 use Rattle.std.specs.Prelude.{◌&&◌, ◌↔◌, All, Contains, IfSome, map, filter, get_or, slice_get, count_by, is_some, if◌then◌else◌}
 use Rattle.std.specs.List.{AllPairs, cons_option, list_any, zip}
-use Rattle.tdb_base.specs.Agrees.{AgreesOwned, AgreesOwnedAmongOthers}
 use Rattle.tdb_base.specs.History.{Vector, Entry, History, is_fresh, name_of, same}
 use Rattle.tdb_base.specs.Legal.{IsLegal}
 use Rattle.tdb_base.specs.Lines.{AreShared, named}
@@ -21,9 +20,10 @@ use Rattle.tdb_base.specs.Renamed.{renamed}
 use Rattle.tdb_base.proofs.RenameLemmas.{named-renamed}
 use Rattle.trace_csv.specs.Sorted.{IsSortedSet}
 use Rattle.command_line.specs.declared.outcome.Job.{Job}
-use Rattle.command_line.specs.declared.outcome.Job.TheVariants.{Insert, Distinct, Bench, Check}
+use Rattle.command_line.specs.declared.outcome.Job.TheVariants.{Insert, Distinct, Bench, Check, Mark}
 use Rattle.treedb.specs.ReadBack.{IfPrinted, IsReadBack, IsReadBy, ReadsInto, new_id, new_ids, vectors}
 use Rattle.treedb.specs.declared.distinct.ReadBack.{ReadBack}
+use Rattle.treedb.proofs.Insertions.{Inserts}
 
 -- the vectors of the lines that are answered new, in the order of the lines
 abbrev pub news : List Vector → List Reply → List Vector
@@ -155,7 +155,11 @@ named-is count h legal v = (there, back)
         contained-at (named h) v (subst (λ (w : Vector). At (named h) w) (sym (same-equal given.entry.vector found.0 found.2) ∙ given.vector) found.1)
 
 module _ (count : ℕ) (owner : ℕ → ℕ) (trace : List Vector) (replies : List Reply) (workers : ℕ) (h : History) (callers : List ℕ)
-    (agrees : AgreesOwned count owner trace replies workers [] h callers) (shared : AreShared (length trace) workers owner) where
+    (inserts : Inserts count owner trace replies workers h callers) (shared : AreShared (length trace) workers owner) where
+  pub named-line : (i : ℕ) (v : Vector) (reply : Reply) (id : ℕ) → slice_get trace i ≡ Some v → slice_get replies i ≡ Some reply → id_of reply ≡ Some id → name_of h v ≡ Some id
+  named-line i v reply id at reply-at given =
+      sym (inserts.names_are v) ∙ line-named count owner trace replies workers [] inserts.puts callers inserts.agrees.among shared i v reply id at reply-at given
+
   -- each named vector is that of one line that is new
   once : (u : Vector) → count_by (λ v. same v u) (news trace replies) ≡ (if is_some (name_of h u) then 1 else 0)
   once u =
@@ -163,8 +167,8 @@ module _ (count : ℕ) (owner : ℕ → ℕ) (trace : List Vector) (replies : Li
       ∙ count-filter (λ (line : Vector × Reply). is_new line.1) (λ (line : Vector × Reply). same line.0 u) (zip trace replies)
       ∙ sym (sum-same (line_weight (λ v fresh. cond (fresh && same v u) 1 0)) (λ (line : Vector × Reply). cond (is_new line.1 && same line.0 u) 1 0) (zip trace replies)
       (λ line k. this-weight u line.0 line.1))
-      ∙ sym (tally count owner trace replies workers h callers (λ v fresh. cond (fresh && same v u) 1 0) agrees shared)
-      ∙ gives-once count u h agrees.among.legal
+      ∙ sym (tally count owner trace replies workers inserts.puts callers (λ v fresh. cond (fresh && same v u) 1 0) inserts.agrees shared)
+      ∙ (gives-once count u inserts.puts inserts.agrees.among.legal ∙ ap (λ (o : Option ℕ). if is_some o then 1 else 0) (inserts.names_are u))
 
   pub news-differ : AllPairs (λ u v. u ≢ v) (news trace replies)
   news-differ = differ-once (news trace replies) (λ u. let one = once u in let most = at-most-one (is_some (name_of h u)) in omega (arith, one, most))
@@ -188,7 +192,7 @@ module _ (count : ℕ) (owner : ℕ → ℕ) (trace : List Vector) (replies : Li
   pub news-named : (v : Vector) → Contains (news trace replies) v ↔ Contains (named h) v
   news-named v =
       let a = news-is v in
-      let b = named-is count h agrees.among.legal v in
+      let b = named-is count h inserts.legal v in
       ((λ x. b.1 (a.0 x)), (λ x. a.1 (b.0 x)))
 
   -- where no line is full, the vectors of the trace are the named ones
@@ -206,18 +210,16 @@ module _ (count : ℕ) (owner : ℕ → ℕ) (trace : List Vector) (replies : Li
       back : Contains trace v → Contains (named h) v
       back has =
           let at = at-contained trace v has in
-          let within : at.0 < length replies = rw agrees.among.one_each (slice_get_within trace at.0 v at.1) in
+          let within : at.0 < length replies = rw inserts.agrees.among.one_each (slice_get_within trace at.0 v at.1) in
           let reply = at-within replies at.0 within in
           let given = gives-id reply.0 (none-full replies at.0 reply.0 none reply.1) in
-          (named-is count h agrees.among.legal v).1
-          (given.0, line-named count owner trace replies workers [] h callers agrees.among shared at.0 v reply.0 given.0 at.1 reply.1 given.1)
+          (named-is count h inserts.legal v).1 (given.0, named-line at.0 v reply.0 given.0 at.1 reply.1 given.1)
 
   -- what has the identifiers of the new lines as names is the new lines
   pub read-news : (read : List Vector) → map (name_of h) read ≡ map Some (new_ids replies) → read ≡ news trace replies
   read-news read names =
-      named-alike count h agrees.among.legal read (news trace replies) (new_ids replies) names
-      (news-names h trace replies agrees.among.one_each
-      (λ i v id at reply. line-named count owner trace replies workers [] h callers agrees.among shared i v (r.New id) id at reply refl))
+      named-alike count h inserts.legal read (news trace replies) (new_ids replies) names
+      (news-names h trace replies inserts.agrees.among.one_each (λ i v id at reply. named-line i v (r.New id) id at reply refl))
 
   -- what was read back by the new identifiers is the named vectors in rising order
   pub read-back : (back : ReadBack) → IsReadBy h (new_ids replies) back → IsReadBack h back
@@ -236,12 +238,12 @@ module _ (count : ℕ) (owner : ℕ → ℕ) (trace : List Vector) (replies : Li
       }
 
 -- each identifier of a reply that is new names a vector
-pub new-named : (count : ℕ) (owner : ℕ → ℕ) (trace : List Vector) (replies : List Reply) (workers : ℕ) (earlier h : History) (callers : List ℕ)
-    → AgreesOwnedAmongOthers count owner trace replies workers earlier h callers → AreShared (length trace) workers owner
+pub new-named : (count : ℕ) (owner : ℕ → ℕ) (trace : List Vector) (replies : List Reply) (workers : ℕ) (h : History) (callers : List ℕ)
+    → Inserts count owner trace replies workers h callers → AreShared (length trace) workers owner
     → All (λ reply. IfSome (new_id reply) (λ id. (v : Vector) × (name_of h v ≡ Some id))) replies
-new-named count owner trace replies workers earlier h callers agrees shared k d lt =
-    let line = at-within trace k (let same = agrees.one_each in omega (arith, lt, same)) in
-    by (get_or replies k d) (λ id is. (line.0, line-named count owner trace replies workers earlier h callers agrees shared k line.0 (r.New id) id line.1 (slice_get-get_or replies k d lt ∙ ap Some is) refl))
+new-named count owner trace replies workers h callers inserts shared k d lt =
+    let line = at-within trace k (let same = inserts.agrees.among.one_each in omega (arith, lt, same)) in
+    by (get_or replies k d) (λ id is. (line.0, named-line count owner trace replies workers h callers inserts shared k line.0 (r.New id) id line.1 (slice_get-get_or replies k d lt ∙ ap Some is) refl))
   where
     by : (reply : Reply) → ((id : ℕ) → reply ≡ r.New id → (v : Vector) × (name_of h v ≡ Some id)) → IfSome (new_id reply) (λ id. (v : Vector) × (name_of h v ≡ Some id))
     by (r.New id) name = name id refl
@@ -259,6 +261,8 @@ if-printed Bench None P Q f p = p
 if-printed Bench (Some b) P Q f p = p
 if-printed Check None P Q f p = p
 if-printed Check (Some b) P Q f p = p
+if-printed Mark None P Q f p = p
+if-printed Mark (Some b) P Q f p = p
 
 pub if-some : (job : Job) (back : Option ReadBack) (P : ReadBack → Type 0) → IfPrinted job back P → IfSome back P
 if-some Insert None P p = p
@@ -269,6 +273,8 @@ if-some Bench None P p = p
 if-some Bench (Some b) P p = absurd p
 if-some Check None P p = p
 if-some Check (Some b) P p = absurd p
+if-some Mark None P p = p
+if-some Mark (Some b) P p = absurd p
 
 pub read-into : (job : Job) (room result : Option ReadBack) (P : ReadBack → Type 0) (h : History) (ids : List ℕ) → IfPrinted job room P → ReadsInto h ids room result → IfPrinted job result (IsReadBy h ids)
 read-into Distinct (Some room) (Some back) P h ids p into = into
@@ -283,6 +289,9 @@ read-into Bench None None P h ids p into = tt
 read-into Check (Some room) result P h ids p into = absurd p
 read-into Check None (Some back) P h ids p into = absurd into
 read-into Check None None P h ids p into = tt
+read-into Mark (Some room) result P h ids p into = absurd p
+read-into Mark None (Some back) P h ids p into = absurd into
+read-into Mark None None P h ids p into = tt
 
 pub printed-distinct : (job : Job) (back : ReadBack) (P : ReadBack → Type 0) → job ≡ Distinct → IfPrinted job (Some back) P → P back
 printed-distinct job back P is p = subst (λ (j : Job). IfPrinted j (Some back) P) is p

@@ -5,7 +5,6 @@ use Rattle.std.specs.Prelude.{◌||◌, ◌↔◌, drop, IfSome, Result, Ok, Err
 use Rattle.std.specs.List.{list_any, range_with_len}
 use Rattle.std.specs.Io.KnownBytes.{Appends, IsAtEnd}
 use Rattle.tdb_base.specs.Causes.{Rose}
-use Rattle.tdb_base.specs.Agrees.{AgreesOwned}
 use Rattle.tdb_base.specs.History.{Vector, History}
 use Rattle.tdb_base.specs.Replies.{is_full}
 use Rattle.tdb_base.specs.declared.reply.Reply.{Reply}
@@ -27,10 +26,11 @@ use Rattle.treedb.specs.Check.{HasTrace, IsWrongInput, Judged, PrintsVerdict, Pr
 use Rattle.treedb.specs.Lines.{HasNoTrace, IsTraceFor, is_reader}
 use Rattle.treedb.specs.Note.{status_of}
 use Rattle.treedb.specs.Answered.{AreAnswered}
-use Rattle.treedb.specs.Chosen.{flag_count, is_check}
+use Rattle.command_line.specs.Rules.{flag_count}
+use Rattle.treedb.specs.Chosen.{is_check}
 use Rattle.treedb.specs.Outcome.{EndsAs, HasNoReport, IsDetail, SinkStep, SourceStep}
 use Rattle.treedb.specs.Reading.{EndsReading, GaveWithin, IsBadTrace, ReadsToEnd}
-use Rattle.treedb.specs.Sharing.{IsSharing, drawn_of, owner_of}
+use Rattle.treedb.specs.Sharing.{AgreesTreated, IsTreated, Treated, treated}
 use Rattle.treedb.specs.Run.{GivesWithin, IsOfMode, IsText, Prints, PrintsFront, Run, TellsOnly, is_of_input, is_printed, reads_to_end}
 use Rattle.treedb.specs.Writing.{WritesAnswered, WritesText, ended_with, ended_with_full}
 use Rattle.treedb.specs.declared.fill.Answered.{Answered}
@@ -175,12 +175,12 @@ any_full (x ∷ replies) = by (is_full x) refl (any_full replies)
         (λ z. rw t (rest.0 (omega (arith, z, same))), λ n e. rw t (rest.1 n (omega (arith, e, same))))
 
 -- the run of some lines that were read or drawn
-pub record HasLines (c : Choice) (told : Option (List ℕ)) (trace : List Vector) (replies : List Reply) (drawn : Option (List ℕ)) (stats : Option Stats) (history : History) : Type 0 where
+pub record HasLines (c : Choice) (told : Option (List ℕ)) (trace : List Vector) (replies : List Reply) (treatment : Treated) (stats : Option Stats) (history : History) : Type 0 where
   pub inserts : is_check c.job ≡ false
   pub valid : IsValid c
   pub read : IsTraceFor c told c.job trace
-  pub shared : IsSharing c (length trace) drawn
-  pub agrees : AgreesOwned (flag_count c.profile) (owner_of c drawn) trace replies c.workers [] history (range_with_len 0 c.workers)
+  pub shared : IsTreated c (length trace) replies treatment
+  pub agrees : AgreesTreated c treatment trace replies history (range_with_len 0 c.workers)
   pub of_mode : IsOfMode c.mode c trace replies history stats
 
 -- a text that was written is no answer to an input
@@ -255,14 +255,14 @@ module _ {S K : Type 0} (c : Choice) (source : SourceStep S) (sink : SinkStep K)
     detail = tt;
   }
 
-  module _ (trace : List Vector) (replies : List Reply) (drawn : Option (List ℕ)) (stats : Option Stats) (history : History)
-      (lines : HasLines c (source.left source.old) trace replies drawn stats history) (text : List ℕ) (writes : IsText c.job replies drawn history stats text) where
+  module _ (trace : List Vector) (replies : List Reply) (treatment : Treated) (stats : Option Stats) (history : History)
+      (lines : HasLines c (source.left source.old) trace replies treatment stats history) (text : List ℕ) (writes : IsText c.job replies treatment history stats text) where
     run_of : Run (Some c) (source.left source.old)
     run_of = record {
       choice = c;
       trace = trace;
       replies = replies;
-      drawn = drawn;
+      treated = treatment;
       history = history;
       stats = stats;
       chose = refl;
@@ -276,7 +276,7 @@ module _ {S K : Type 0} (c : Choice) (source : SourceStep S) (sink : SinkStep K)
     inserts : is_check c.job ≡ true → ⊥
     inserts checks = let other = lines.inserts in cc (checks, other)
 
-    whole : Appends (sink.taken sink.old) (sink.taken sink.new) text → TellsOnly c.job replies drawn text → sink.settled sink.new ≡ true
+    whole : Appends (sink.taken sink.old) (sink.taken sink.new) text → TellsOnly c.job replies treatment text → sink.settled sink.new ≡ true
         → (n : ℕ) → count_by is_full replies ≡ n → EndsAs (Some c) source sink (ended_with_full n)
     unfolding run_of
     whole appends only settles zero count =
@@ -306,7 +306,7 @@ module _ {S K : Type 0} (c : Choice) (source : SourceStep S) (sink : SinkStep K)
     with_no_fault zero x = cc x
     with_no_fault (suc n) x = cc x
 
-    pub written : (ended : Ended) → WritesText text replies (sink.taken sink.old) (sink.taken sink.new) ended → (ended ≢ e.WriteFault → TellsOnly c.job replies drawn text)
+    pub written : (ended : Ended) → WritesText text replies (sink.taken sink.old) (sink.taken sink.new) ended → (ended ≢ e.WriteFault → TellsOnly c.job replies treatment text)
         → (ended ≢ e.WriteFault → sink.settled sink.new ≡ true) → (ended ≡ e.WriteFault → Rose (sink.faults sink.old) (sink.faults sink.new)) → EndsAs (Some c) source sink ended
     unfolding run_of
     written ended wrote only settles fault = ⊎_elim
@@ -322,7 +322,7 @@ module _ {S K : Type 0} (c : Choice) (source : SourceStep S) (sink : SinkStep K)
   pub answered_end : (trace : List Vector) (answered : Answered) (are : AreAnswered c trace answered) → is_check c.job ≡ false → IsValid c
       → IsTraceFor c (source.left source.old) c.job trace → (ended : Ended) → WritesAnswered c answered are.history sink ended → EndsAs (Some c) source sink ended
   answered_end trace answered are inserts valid read ended wrote =
-      written trace answered.inserted.replies.items (drawn_of answered.inserted) answered.stats are.history
+      written trace answered.inserted.replies.items (treated answered.inserted) answered.stats are.history
       (record { inserts = inserts; valid = valid; read = read; shared = are.shared; agrees = are.agrees; of_mode = are.of_mode })
       wrote.text wrote.is_text ended wrote.written wrote.only wrote.settled wrote.fault
 

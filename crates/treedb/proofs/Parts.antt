@@ -10,7 +10,7 @@ use Rattle.tree_store.specs.Ranges.{NodesFit, ProbeFits, IsFirstOut}
 use Rattle.command_line.specs.declared.outcome.Choice.{Choice}
 use Rattle.command_line.specs.declared.outcome.Mode.{Mode}
 use Rattle.command_line.specs.declared.outcome.Mode.TheVariants.{Plain, Compact}
-use Rattle.treedb.specs.Chosen.{flag_count}
+use Rattle.command_line.specs.Rules.{flag_count}
 use Rattle.treedb.specs.Filling.{IsPartFor}
 use Rattle.treedb.specs.Run.{IsOfMode}
 

@@ -3,15 +3,14 @@ use Rattle.std.proofs.Common.{◌≡◌, ℕ, suc, ◌+◌, ◌*◌, ◌-◌, �
 use Rattle.std.specs.Prelude.{All, IfSome, slice_get, count_by}
 use Rattle.std.specs.List.{list_any, range_with_len}
 use Rattle.tree_shape.specs.Tree.{Has}
-use Rattle.tdb_base.specs.Agrees.{AgreesOwned}
 use Rattle.tdb_base.specs.History.{Vector, History, name_of}
 use Rattle.tdb_base.specs.Renamed.{renamed, position_of}
 use Rattle.tdb_base.specs.Replies.{is_new, is_full, id_of}
 use Rattle.tdb_base.specs.declared.reply.Reply.{Reply}
 use Rattle.tdb_base.specs.declared.reply.Reply.TheVariants as r
-use Rattle.tdb_base.proofs.HeadlineLemmas.{counts-names, line-named, none-full}
+use Rattle.tdb_base.proofs.HeadlineLemmas.{none-full}
 use Rattle.tdb_base.proofs.ListLemmas.{at-within}
-use Rattle.tdb_base.proofs.RenameLemmas.{agrees_renamed, legal-renamed, name-renamed}
+use Rattle.tdb_base.proofs.RenameLemmas.{legal-renamed, name-renamed}
 use Rattle.std.proofs.lemmas.Option.{slice_get_within}
 use Rattle.tdb_base.proofs.DistinctLemmas.{count-named}
 use Rattle.tree_store.proofs.Census.{names_all}
@@ -21,19 +20,21 @@ use Rattle.pair_rule.specs.declared.pass.PassOf.{PassOf}
 use Rattle.pair_rule.specs.Part.{Part, Store, root_pairs}
 use Rattle.pair_rule.specs.Rest.{AtRest, HasAll, Housed, names_of_callers, view}
 use Rattle.work_run.specs.Full.{AreOfVectors, IsOfOne}
-use Rattle.tdb_base.specs.Lines.{AreShared}
+use Rattle.tdb_base.specs.Agrees.{AgreesOver}
+use Rattle.tdb_base.specs.Lines.{AreShared, owned}
 use Rattle.work_run.proofs.Few.{few_puts}
 use Rattle.trace_csv.specs.declared.report.Stats.{Stats}
 use Rattle.command_line.specs.declared.outcome.Choice.{Choice}
 use Rattle.treedb.specs.Answered.{CountsOf}
 use Rattle.treedb.specs.Filling.{AreInserted}
-use Rattle.treedb.specs.Chosen.{flag_count}
-use Rattle.treedb.specs.Sharing.{drawn_of, owner_of}
+use Rattle.command_line.specs.Rules.{flag_count}
+use Rattle.treedb.specs.Sharing.{AgreesTreated, line_entries, owner_of, treated}
 use Rattle.treedb.specs.ReadBack.{IsReadBack, IsReadBy, new_id, new_ids}
 use Rattle.treedb.specs.Stored.{Counts, AreTold, NodesAreNamed, InStore}
 use Rattle.treedb.specs.declared.distinct.ReadBack.{ReadBack}
 use Rattle.treedb.specs.declared.insertion.Inserted.{Inserted}
-use Rattle.treedb.proofs.NewLemmas.{new-named, read-back, read-renamed}
+use Rattle.treedb.proofs.Insertions.{Inserts, agrees-from-zero, insertions}
+use Rattle.treedb.proofs.NewLemmas.{named-line, new-named, read-back, read-renamed}
 use Rattle.treedb.proofs.SharingLemmas.{shared-out}
 use Rattle.treedb.proofs.RoomLemmas.{buckets_for, none_is_full, of_new_store}
 use Rattle.treedb.specs.Room.{HaveRoom}
@@ -83,24 +84,34 @@ module _ {T : Type 0} (part : Part T) (c : Choice) (trace : List Vector) (made :
   history = renamed (position_of inserted.done.ran.one_history.0) (view last).seen
 
   abbrev owner : ℕ → ℕ
-  owner = owner_of c (drawn_of made)
+  owner = owner_of c (treated made)
 
   -- each line is some worker's
   shared : AreShared (length trace) c.workers owner
-  shared = shared-out c (length trace) (drawn_of made) some inserted.done.shared
+  shared = shared-out c (length trace) replies (treated made) some inserted.done.shared
 
   -- the pass stands for the whole store
   all : HasAll part (view last).about (view last)
   all = rests.seat.sound.whole (inserted.done.ran.whole inserted.whole)
 
-  pub own_agrees : AgreesOwned (flag_count c.profile) owner trace replies c.workers [] (view last).seen inserted.done.ran.one_history.0
+  own_agrees : AgreesTreated c (treated made) trace replies (view last).seen inserted.done.ran.one_history.0
   own_agrees =
       let none_seen : (view inserted.first).seen ≡ [] = ap (λ (v : View T). v.seen) inserted.begins in
-      subst (λ (n : ℕ). AgreesOwned n owner trace replies c.workers [] (view last).seen inserted.done.ran.one_history.0) inserted.about_is.flags
-      (subst (λ (h : History). AgreesOwned store.about.flags owner trace replies c.workers h (view last).seen inserted.done.ran.one_history.0) none_seen (inserted.done.ran.one_history.1.alone inserted.whole))
+      let lines_of : ℕ → List ℕ = owned (length trace) owner in
+      let entries : ℕ → ℕ → History = line_entries c (treated made) trace replies in
+      let callers = inserted.done.ran.one_history.0 in
+      subst (λ (n : ℕ). AgreesOver n lines_of entries trace replies c.workers [] (view last).seen callers) inserted.about_is.flags
+      (subst (λ (h : History). AgreesOver store.about.flags lines_of entries trace replies c.workers h (view last).seen callers) none_seen (inserted.done.ran.one_history.1.alone inserted.whole))
 
-  pub agrees_run : AgreesOwned (flag_count c.profile) owner trace replies c.workers [] history (range_with_len 0 c.workers)
-  agrees_run = agrees_renamed (flag_count c.profile) owner trace replies c.workers (view last).seen inserted.done.ran.one_history.0 own_agrees
+  -- what holds of insertions
+  own_inserts : Inserts (flag_count c.profile) owner trace replies c.workers (view last).seen inserted.done.ran.one_history.0
+  own_inserts = insertions c trace replies (treated made) (view last).seen inserted.done.ran.one_history.0 some inserted.done.shared own_agrees
+
+  pub agrees_run : AgreesTreated c (treated made) trace replies history (range_with_len 0 c.workers)
+  agrees_run = agrees-from-zero c trace replies (treated made) (view last).seen inserted.done.ran.one_history.0 some inserted.done.shared own_agrees
+
+  run_inserts : Inserts (flag_count c.profile) owner trace replies c.workers history (range_with_len 0 c.workers)
+  run_inserts = insertions c trace replies (treated made) history (range_with_len 0 c.workers) some inserted.done.shared agrees_run
 
   filled_run : AreOfVectors store.about (view last).known trace
   filled_run index pair h = ⊎_elim
@@ -113,7 +124,7 @@ module _ {T : Type 0} (part : Part T) (c : Choice) (trace : List Vector) (made :
   names_are =
       names_all (view last).numbers (view last).seen all.callers
       ∙ (count-named (flag_count c.profile) (view last).seen own_agrees.among.legal
-      ∙ sym (counts-names (flag_count c.profile) owner trace replies c.workers (view last).seen inserted.done.ran.one_history.0 own_agrees shared))
+      ∙ sym own_inserts.counts)
 
   few_made : length (view last).made ≤ (store.about.slots - 2) * length trace
   few_made =
@@ -148,7 +159,7 @@ module _ {T : Type 0} (part : Part T) (c : Choice) (trace : List Vector) (made :
       let at = has_some_place of.0 trace of.1 in
       let reply = at-within replies at.0 (let same = agrees_run.among.one_each in let lt = slice_get_within trace at.0 of.0 at.1 in omega arith) in
       let id = named_by reply.0 (none-full replies at.0 reply.0 none reply.1) in
-      (of.0, id.0, line-named (flag_count c.profile) owner trace replies c.workers [] history (range_with_len 0 c.workers) agrees_run.among shared at.0 of.0 reply.0 id.0 at.1 reply.1 id.1, of.2)
+      (of.0, id.0, named-line (flag_count c.profile) owner trace replies c.workers history (range_with_len 0 c.workers) run_inserts shared at.0 of.0 reply.0 id.0 at.1 reply.1 id.1, of.2)
 
   pub in_store_run : (stats : Option Stats) → AreTold c.stats stats (CountsOf part store.about (view last)) → InStore part c trace replies history stats
   in_store_run stats told = record {
@@ -167,8 +178,8 @@ module _ {T : Type 0} (part : Part T) (c : Choice) (trace : List Vector) (made :
 
   -- the identifiers of the replies that are new name vectors, and what is read back by them is the named ones
   pub new_are_named : All (λ reply. IfSome (new_id reply) (λ id. (v : Vector) × (name_of (view last).seen v ≡ Some id))) replies
-  new_are_named = new-named store.about.flags owner trace replies c.workers (view inserted.first).seen (view last).seen inserted.done.ran.one_history.0 inserted.done.ran.one_history.1.among shared
+  new_are_named = new-named (flag_count c.profile) owner trace replies c.workers (view last).seen inserted.done.ran.one_history.0 own_inserts shared
 
   pub read_back_run : (back : ReadBack) → IsReadBy (view last).seen (new_ids replies) back → IsReadBack history back
   read_back_run back by = read-renamed (position_of inserted.done.ran.one_history.0) (view last).seen back
-      (read-back (flag_count c.profile) owner trace replies c.workers (view last).seen inserted.done.ran.one_history.0 own_agrees shared back by)
+      (read-back (flag_count c.profile) owner trace replies c.workers (view last).seen inserted.done.ran.one_history.0 own_inserts shared back by)

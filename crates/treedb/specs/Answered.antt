@@ -1,7 +1,6 @@
 -- What the lines of a trace are answered.
-use Rattle.std.specs.Prelude.{◌≡◌, ◌+◌, ◌*◌, List, [], length}
+use Rattle.std.specs.Prelude.{◌≡◌, ◌+◌, ◌*◌, List, length}
 use Rattle.std.specs.List.{range_with_len}
-use Rattle.tdb_base.specs.Agrees.{AgreesOwned}
 use Rattle.tdb_base.specs.History.{Vector, History}
 use Rattle.pair_rule.specs.Part.{Part}
 use Rattle.pair_rule.specs.Rest.{names_of_callers}
@@ -10,10 +9,9 @@ use Rattle.pair_rule.specs.declared.sizes.About.{About}
 use Rattle.trace_csv.specs.declared.report.Stats.{Stats}
 use Rattle.command_line.specs.declared.outcome.Choice.{Choice}
 use Rattle.treedb.specs.declared.fill.Answered.{Answered}
-use Rattle.treedb.specs.Chosen.{flag_count}
 use Rattle.treedb.specs.ReadBack.{IfPrinted, IsReadBack}
 use Rattle.treedb.specs.Run.{IsOfMode}
-use Rattle.treedb.specs.Sharing.{IsSharing, drawn_of, owner_of}
+use Rattle.treedb.specs.Sharing.{AgreesTreated, IsTreated, treated}
 
 -- the counts that a pass tells
 pub record CountsOf {T : Type 0} (part : Part T) (about : About) (v : View T) (stats : Stats) : Type 0 where
@@ -25,8 +23,8 @@ pub record CountsOf {T : Type 0} (part : Part T) (about : About) (v : View T) (s
 -- behind them, and where the job prints vectors the named ones were read back
 pub record AreAnswered (c : Choice) (trace : List Vector) (answered : Answered) : Type 0 where
   pub history : History
-  pub shared : IsSharing c (length trace) (drawn_of answered.inserted)
-  pub agrees : AgreesOwned (flag_count c.profile) (owner_of c (drawn_of answered.inserted)) trace
-      answered.inserted.replies.items c.workers [] history (range_with_len 0 c.workers)
+  pub shared : IsTreated c (length trace) answered.inserted.replies.items (treated answered.inserted)
+  pub agrees : AgreesTreated c (treated answered.inserted) trace answered.inserted.replies.items history
+      (range_with_len 0 c.workers)
   pub of_mode : IsOfMode c.mode c trace answered.inserted.replies.items history answered.stats
   pub vectors : IfPrinted c.job answered.vectors (IsReadBack history)

@@ -15,7 +15,7 @@ use Rattle.run_check.specs.declared.verdict.Verdict.TheVariants as v
 use Rattle.command_line.specs.declared.outcome.Choice.{Choice}
 use Rattle.treedb.specs.Lines.{IsCutInto}
 use Rattle.treedb.specs.Note.{status_of}
-use Rattle.treedb.specs.Chosen.{flag_count}
+use Rattle.command_line.specs.Rules.{flag_count}
 use Rattle.treedb.specs.declared.ended.Ended.{Ended}
 use Rattle.treedb.specs.declared.ended.Ended.TheVariants as e
 

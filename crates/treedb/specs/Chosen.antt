@@ -1,24 +1,21 @@
 -- What the words choose.
-use Rattle.std.specs.Prelude.{◌≡◌, ◌⊎◌, ◌==◌, ℕ, Bool, true, false, List, Option, Some, None}
+use Rattle.std.specs.Prelude.{◌≡◌, ◌⊎◌, Bool, true, false, List, Option, Some, None}
 use Rattle.std.specs.Prelude.{if◌then◌else◌, option_and_then}
 use Rattle.clap.specs.Words.{Text}
 use Rattle.command_line.specs.Choose.{chosen}
 use Rattle.command_line.specs.Rules.{is_compact}
 use Rattle.command_line.specs.declared.outcome.Job.{Job}
-use Rattle.command_line.specs.declared.outcome.Job.TheVariants.{Insert, Distinct, Bench, Check}
+use Rattle.command_line.specs.declared.outcome.Job.TheVariants.{Insert, Distinct, Bench, Check, Mark}
 use Rattle.command_line.specs.declared.outcome.Choice.{Choice}
 use Rattle.treedb.specs.declared.ended.Ended.{Ended}
 use Rattle.treedb.specs.declared.ended.Ended.TheVariants as e
-
--- how many flags a vector has, by the bits of its slots
-abbrev pub flag_count : ℕ → ℕ
-flag_count width = if width == 16 then 8 else (if width == 28 then 7 else 1)
 
 abbrev pub is_check : Job → Bool
 is_check Insert = false
 is_check Distinct = false
 is_check Bench = false
 is_check Check = true
+is_check Mark = false
 
 -- the choice, if it is one of plain mode
 abbrev pub if_plain : Choice → Option Choice

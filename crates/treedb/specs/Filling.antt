@@ -1,6 +1,5 @@
 -- A store of a choice is made for the lines of a trace, and filled with them.
 use Rattle.std.specs.Prelude.{◌≡◌, ◌≤◌, ◌^◌, ℕ, List, Option, All, length}
-use Rattle.tdb_base.specs.Agrees.{entries_of_insertion}
 use Rattle.tdb_base.specs.History.{Vector, History}
 use Rattle.tdb_base.specs.Lines.{owned}
 use Rattle.tdb_base.specs.declared.reply.Reply.{Reply}
@@ -25,7 +24,7 @@ use Rattle.command_line.specs.declared.table.TableSizes.{TableSizes}
 use Rattle.treedb.specs.ReadBack.{AwaitsLines, IfPrinted}
 use Rattle.treedb.specs.Room.{HasRootRoom}
 use Rattle.treedb.specs.Run.{IsOfMode}
-use Rattle.treedb.specs.Sharing.{IsSharing, drawn_of, owner_of}
+use Rattle.treedb.specs.Sharing.{IsTreated, line_entries, owner_of, treated}
 use Rattle.treedb.specs.Stored.{IsAboutChoice, InStore}
 use Rattle.treedb.specs.declared.distinct.ReadBack.{ReadBack}
 use Rattle.treedb.specs.declared.insertion.Inserted.{Inserted}
@@ -67,12 +66,13 @@ pub record AwaitsTrace {T : Type 0} (part : Part T) (c : Choice) (trace : List V
   pub few : length trace ≤ 2 ^ 32
   pub room_is : IfPrinted c.job room (AwaitsLines store.about.slots (length trace))
 
--- the workers inserted the lines of a trace, which are shared out as the choice says, with these replies
+-- the workers inserted the lines of a trace, which are treated as the choice says, with these replies
 pub record HasInserted {T : Type 0} (part : Part T) (c : Choice) (about : About) (trace : List Vector)
     (old new : PassOf T) (made : Inserted) : Type 0 where
-  pub shared : IsSharing c (length trace) (drawn_of made)
-  pub ran : HasRunOver (owned (length trace) (owner_of c (drawn_of made)))
-      (entries_of_insertion trace made.replies.items) part about trace made.replies.items c.workers old new
+  pub shared : IsTreated c (length trace) made.replies.items (treated made)
+  pub ran : HasRunOver (owned (length trace) (owner_of c (treated made)))
+      (line_entries c (treated made) trace made.replies.items)
+      part about trace made.replies.items c.workers old new
 
 -- these are the replies to the lines of a trace, which were inserted into a new store of a choice, and this
 -- is its pass then

@@ -7,7 +7,7 @@ use Rattle.trace_csv.specs.Walk.{walk}
 use Rattle.run_check.specs.Cut.{IsCut}
 use Rattle.run_check.specs.Sentences.{IsLeast}
 use Rattle.command_line.specs.declared.outcome.Job.{Job}
-use Rattle.command_line.specs.declared.outcome.Job.TheVariants.{Insert, Distinct, Bench, Check}
+use Rattle.command_line.specs.declared.outcome.Job.TheVariants.{Insert, Distinct, Bench, Check, Mark}
 use Rattle.command_line.specs.declared.outcome.Choice.{Choice}
 
 -- the lines, where there are some
@@ -29,6 +29,7 @@ is_reader Insert = true
 is_reader Distinct = true
 is_reader Bench = false
 is_reader Check = true
+is_reader Mark = true
 
 -- bytes are cut into a trace and a report at the first line that is `#` alone
 pub record IsCutInto (bytes text report : List ℕ) : Type 0 where
@@ -43,6 +44,7 @@ IsTraceText Insert bytes text = text ≡ bytes
 IsTraceText Distinct bytes text = text ≡ bytes
 IsTraceText Bench bytes text = ⊥
 IsTraceText Check bytes text = (report : List ℕ) × IsCutInto bytes text report
+IsTraceText Mark bytes text = text ≡ bytes
 
 -- they write no trace
 abbrev pub HasNoTrace : Choice → List ℕ → Type 0
@@ -54,3 +56,4 @@ IsTraceFor c told Insert trace = IfSome told (λ bytes. read_lines c bytes ≡ S
 IsTraceFor c told Distinct trace = IfSome told (λ bytes. read_lines c bytes ≡ Some trace)
 IsTraceFor c told Bench trace = trace ≡ drawn_lines c
 IsTraceFor c told Check trace = ⊥
+IsTraceFor c told Mark trace = IfSome told (λ bytes. read_lines c bytes ≡ Some trace)

@@ -38,10 +38,10 @@ has_note s.BadReport = true
 -- how the words of the command line are written
 unfoldable pub usage : List ℕ
 usage =
-    codes "usage: treedb insert|distinct|bench|check [--mode plain|compact] [--profile 16|28|31]\n"
+    codes "usage: treedb insert|distinct|bench|check|mark [--mode plain|compact] [--profile 16|28|31]\n"
     ++ codes "  [--workers N] [--block N] [--nodes D] [--roots R] [--region S] [--probe P]\n"
     ++ codes "  [--stats] [--lines N] [--slots K] [--values M] [--seed S]\n"
-    ++ codes "  [--claims]\n"
+    ++ codes "  [--claims] [--flag B]\n"
 
 abbrev pub no_memory : List ℕ
 no_memory = codes "treedb: no memory\n"

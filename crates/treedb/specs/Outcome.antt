@@ -10,7 +10,7 @@ use Rattle.tdb_base.specs.declared.reply.Status.{Status}
 use Rattle.tdb_base.specs.declared.reply.Status.TheVariants as s
 use Rattle.command_line.specs.declared.outcome.Choice.{Choice}
 use Rattle.command_line.specs.declared.outcome.Job.{Job}
-use Rattle.command_line.specs.declared.outcome.Job.TheVariants.{Insert, Distinct, Bench, Check}
+use Rattle.command_line.specs.declared.outcome.Job.TheVariants.{Insert, Distinct, Bench, Check, Mark}
 use Rattle.treedb.specs.Check.{IsInput, PrintsVerdict, PrintsVerdictFront}
 use Rattle.treedb.specs.Lines.{HasNoTrace, is_reader, read_lines}
 use Rattle.treedb.specs.Chosen.{is_check}
@@ -105,6 +105,7 @@ IsValidInput Insert c bytes = (lines : List Vector) × (read_lines c bytes ≡ S
 IsValidInput Distinct c bytes = (lines : List Vector) × (read_lines c bytes ≡ Some lines)
 IsValidInput Bench c bytes = Unit {0}
 IsValidInput Check c bytes = (trace : List Vector) × (replies : List Reply) × IsInput c bytes trace replies
+IsValidInput Mark c bytes = (lines : List Vector) × (read_lines c bytes ≡ Some lines)
 
 -- where nothing failed, and the input is valid and within the limit, the text was written, or memory ran out
 abbrev pub IsComplete : {S K : Type 0} → Option Choice → SourceStep S → SinkStep K → Status → Type 0

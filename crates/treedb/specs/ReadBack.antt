@@ -9,7 +9,7 @@ use Rattle.tdb_base.specs.declared.reply.Reply.TheVariants as r
 use Rattle.trace_csv.specs.Sorted.{IsSortedSet}
 use Rattle.trace_csv.specs.Vectors.{vectors_of}
 use Rattle.command_line.specs.declared.outcome.Job.{Job}
-use Rattle.command_line.specs.declared.outcome.Job.TheVariants.{Insert, Distinct, Bench, Check}
+use Rattle.command_line.specs.declared.outcome.Job.TheVariants.{Insert, Distinct, Bench, Check, Mark}
 use Rattle.treedb.specs.declared.distinct.ReadBack.{ReadBack}
 
 -- the vectors, in the order of the numbers
@@ -90,3 +90,5 @@ IfPrinted Bench (Some back) Fact = ⊥
 IfPrinted Bench None Fact = ⊤
 IfPrinted Check (Some back) Fact = ⊥
 IfPrinted Check None Fact = ⊤
+IfPrinted Mark (Some back) Fact = ⊥
+IfPrinted Mark None Fact = ⊤

@@ -1,15 +1,14 @@
 -- What a run of the program leaves behind.
-use Rattle.std.specs.Prelude.{◌≡◌, ◌≢◌, ◌<◌, ◌↔◌, ℕ, Bool, true, false, List, [], Option, Some}
-use Rattle.std.specs.Prelude.{length, ⊤}
+use Rattle.std.specs.Prelude.{◌≡◌, ◌≢◌, ◌<◌, ◌↔◌, ℕ, Bool, true, false, List, Option, Some}
+use Rattle.std.specs.Prelude.{count_by, length, ⊤}
 use Rattle.std.specs.Io.KnownBytes.{Consumes, Appends}
 use Rattle.std.specs.List.{list_any, range_with_len}
-use Rattle.tdb_base.specs.Agrees.{AgreesOwned}
 use Rattle.tdb_base.specs.Headline.{CountsDistinct, CountsNames, DifferentLinesDifferentIds, EachNewOnce}
 use Rattle.tdb_base.specs.Headline.{EqualLinesEqualIds}
 use Rattle.tdb_base.specs.History.{Vector, History}
 use Rattle.tdb_base.specs.Legal.{KeepsNames}
 use Rattle.tdb_base.specs.Lines.{named}
-use Rattle.tdb_base.specs.Replies.{is_full}
+use Rattle.tdb_base.specs.Replies.{is_full, is_new}
 use Rattle.tdb_base.specs.declared.reply.Reply.{Reply}
 use Rattle.tdb_base.specs.declared.reply.Status.{Status}
 use Rattle.tdb_base.specs.declared.reply.Status.TheVariants as s
@@ -17,18 +16,19 @@ use Rattle.region_root.specs.Compact.{compact}
 use Rattle.root_plain.specs.Plain.{plain}
 use Rattle.trace_csv.specs.Input.{limit}
 use Rattle.trace_csv.specs.Output.{TakesFront}
-use Rattle.trace_csv.specs.Report.{summary_of, summary_text}
+use Rattle.trace_csv.specs.Report.{marked_count, summary_of, summary_text}
 use Rattle.trace_csv.specs.Sorted.{IsSortedText}
 use Rattle.trace_csv.specs.declared.report.Stats.{Stats}
 use Rattle.command_line.specs.Valid.{IsValid}
 use Rattle.command_line.specs.declared.outcome.Job.{Job}
-use Rattle.command_line.specs.declared.outcome.Job.TheVariants.{Insert, Distinct, Bench, Check}
+use Rattle.command_line.specs.declared.outcome.Job.TheVariants.{Insert, Distinct, Bench, Check, Mark}
 use Rattle.command_line.specs.declared.outcome.Mode.{Mode}
 use Rattle.command_line.specs.declared.outcome.Mode.TheVariants.{Plain, Compact}
 use Rattle.command_line.specs.declared.outcome.Choice.{Choice}
 use Rattle.treedb.specs.Lines.{IsTraceFor}
-use Rattle.treedb.specs.Chosen.{flag_count}
-use Rattle.treedb.specs.Sharing.{IsSharing, TellsReplies, owner_of, report_of}
+use Rattle.command_line.specs.Rules.{flag_count}
+use Rattle.treedb.specs.Sharing.{AgreesTreated, IfMarked, IsTreated, TellsReplies, Treated, report_of}
+use Rattle.work_run.specs.Marks.{EachMarkedOnce}
 use Rattle.treedb.specs.Stored.{InStore}
 
 -- the run wrote its whole text
@@ -83,44 +83,56 @@ IsOfMode Compact c trace replies h stats =
     InStore (compact c.profile (flag_count c.profile)) c trace replies h stats
 
 -- a run that inserts lines, of a choice over the input that a source tells: its lines, a reply for each, who
--- drew each where workers draw, and the one history that the replies form
+-- drew each where workers draw, its mark where lines are marked, and the one history that the replies form
 pub record Run (offer : Option Choice) (told : Option (List ℕ)) : Type 0 where
   pub choice : Choice
   pub trace : List Vector
   pub replies : List Reply
-  pub drawn : Option (List ℕ)
+  pub treated : Treated
   pub history : History
   pub stats : Option Stats
   pub chose : offer ≡ Some choice
   pub valid : IsValid choice
   pub read : IsTraceFor choice told choice.job trace
-  pub shared : IsSharing choice (length trace) drawn
-  pub agrees : AgreesOwned (flag_count choice.profile) (owner_of choice drawn) trace replies choice.workers
-      [] history (range_with_len 0 choice.workers)
+  pub shared : IsTreated choice (length trace) replies treated
+  pub agrees : AgreesTreated choice treated trace replies history (range_with_len 0 choice.workers)
   pub of_mode : IsOfMode choice.mode choice trace replies history stats
 
 -- the text that a job writes: the report, the summary alone, or the vectors that have names in rising order
-abbrev pub IsText : Job → List Reply → Option (List ℕ) → History → Option Stats → List ℕ → Type 0
-IsText Insert replies drawn h stats text = text ≡ report_of drawn replies (summary_of replies stats)
-IsText Distinct replies drawn h stats text = IsSortedText (named h) text
-IsText Bench replies drawn h stats text = text ≡ summary_text (summary_of replies stats)
-IsText Check replies drawn h stats text = ⊥
+abbrev pub IsText : Job → List Reply → Treated → History → Option Stats → List ℕ → Type 0
+IsText Insert replies treated h stats text = text ≡ report_of treated replies (summary_of replies stats)
+IsText Distinct replies treated h stats text = IsSortedText (named h) text
+IsText Bench replies treated h stats text = text ≡ summary_text (summary_of replies stats)
+IsText Check replies treated h stats text = ⊥
+IsText Mark replies treated h stats text = text ≡ report_of treated replies (summary_of replies stats)
 
 -- where the text is a report, it is that of no other replies
-abbrev pub TellsOnly : Job → List Reply → Option (List ℕ) → List ℕ → Type 0
-TellsOnly Insert replies drawn text = TellsReplies drawn replies text
-TellsOnly Distinct replies drawn text = ⊤
-TellsOnly Bench replies drawn text = ⊤
-TellsOnly Check replies drawn text = ⊤
+abbrev pub TellsOnly : Job → List Reply → Treated → List ℕ → Type 0
+TellsOnly Insert replies treated text = TellsReplies treated replies text
+TellsOnly Distinct replies treated text = ⊤
+TellsOnly Bench replies treated text = ⊤
+TellsOnly Check replies treated text = ⊤
+TellsOnly Mark replies treated text = TellsReplies treated replies text
 
 abbrev pub IsTextOf : {offer : Option Choice} {told : Option (List ℕ)} → Run offer told → List ℕ → Type 0
-IsTextOf run text = IsText run.choice.job run.replies run.drawn run.history run.stats text
+IsTextOf run text = IsText run.choice.job run.replies run.treated run.history run.stats text
 
 -- where the job prints vectors and no line is full, they are those of the lines
 abbrev pub PrintsTheLines : {offer : Option Choice} {told : Option (List ℕ)} → Run offer told → List ℕ
     → Type 0
 PrintsTheLines run text = run.choice.job ≡ Distinct → list_any is_full run.replies ≡ false
     → IsSortedText run.trace text
+
+-- the line of each named vector is marked first once, and the count of them that is printed is the count of
+-- distinct lines
+pub record AreFirstOnce (trace : List Vector) (replies : List Reply) (firsts : List Bool) (h : History)
+    : Type 0 where
+  pub once : EachMarkedOnce trace firsts h
+  pub printed_count : marked_count replies firsts ≡ count_by is_new replies
+
+abbrev pub MarksAreFirstOnce : {offer : Option Choice} {told : Option (List ℕ)} → Run offer told → Type 0
+MarksAreFirstOnce run =
+    IfMarked run.treated (λ firsts. AreFirstOnce run.trace run.replies firsts run.history)
 
 -- what holds of a run and its text
 pub record Headline {offer : Option Choice} {told : Option (List ℕ)} (run : Run offer told)
@@ -132,6 +144,7 @@ pub record Headline {offer : Option Choice} {told : Option (List ℕ)} (run : Ru
   pub printed_count_is_the_number_of_distinct_lines : CountsDistinct run.trace run.replies
   pub names_are_kept_for_good : KeepsNames (flag_count run.choice.profile) run.history
   pub printed_vectors_are_those_of_the_lines : PrintsTheLines run text
+  pub marks_are_first_once : MarksAreFirstOnce run
 
 -- the sink took the text of a run, which is that of no other replies; `Full` is the status exactly where some
 -- line is full
@@ -140,7 +153,7 @@ pub record Prints (offer : Option Choice) (told old new : Option (List ℕ)) (st
   pub text : List ℕ
   pub is_text : IsTextOf run text
   pub taken : Appends old new text
-  pub only : TellsOnly run.choice.job run.replies run.drawn text
+  pub only : TellsOnly run.choice.job run.replies run.treated text
   pub full : (status ≡ s.Full) ↔ (list_any is_full run.replies ≡ true)
   pub never_refuted : status ≢ s.Refuted
 

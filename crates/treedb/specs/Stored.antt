@@ -17,7 +17,7 @@ use Rattle.trace_csv.specs.declared.report.Stats.{Stats}
 use Rattle.command_line.specs.Sizes.{AreTableSizes}
 use Rattle.command_line.specs.declared.outcome.Choice.{Choice}
 use Rattle.command_line.specs.declared.table.TableSizes.{TableSizes}
-use Rattle.treedb.specs.Chosen.{flag_count}
+use Rattle.command_line.specs.Rules.{flag_count}
 use Rattle.treedb.specs.Room.{HaveRoom}
 
 -- what the tables of a choice are about, for these lines: the profile, the lines' slots, and the sizes that

@@ -9,7 +9,7 @@ use Rattle.tdb_base.specs.declared.reply.Reply.{Reply}
 use Rattle.command_line.specs.declared.outcome.Choice.{Choice}
 use Rattle.treedb.specs.Outcome.{SinkStep}
 use Rattle.treedb.specs.Run.{IsText, TellsOnly}
-use Rattle.treedb.specs.Sharing.{drawn_of}
+use Rattle.treedb.specs.Sharing.{treated}
 use Rattle.treedb.specs.declared.fill.Answered.{Answered}
 use Rattle.treedb.specs.declared.ended.Ended.{Ended}
 use Rattle.treedb.specs.declared.ended.Ended.TheVariants as e
@@ -32,11 +32,11 @@ WritesText text replies old new ended =
 pub record WritesAnswered {K : Type 0} (c : Choice) (answered : Answered) (h : History) (sink : SinkStep K)
     (ended : Ended) : Type 0 where
   pub text : List ℕ
-  pub is_text : IsText c.job answered.inserted.replies.items (drawn_of answered.inserted) h
+  pub is_text : IsText c.job answered.inserted.replies.items (treated answered.inserted) h
       answered.stats text
   pub written : WritesText text answered.inserted.replies.items
       (sink.taken sink.old) (sink.taken sink.new) ended
   pub only : ended ≢ e.WriteFault
-      → TellsOnly c.job answered.inserted.replies.items (drawn_of answered.inserted) text
+      → TellsOnly c.job answered.inserted.replies.items (treated answered.inserted) text
   pub settled : ended ≢ e.WriteFault → sink.settled sink.new ≡ true
   pub fault : ended ≡ e.WriteFault → Rose (sink.faults sink.old) (sink.faults sink.new)

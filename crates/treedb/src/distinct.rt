@@ -220,7 +220,7 @@ pub fn take_room(
 {
     match job {
         Job::Distinct => Ok(Some(ReadBack::new(alloc, slots, lines)?)),
-        Job::Insert | Job::Bench | Job::Check => Ok(None),
+        Job::Insert | Job::Bench | Job::Check | Job::Mark => Ok(None),
     }
 }
 

@@ -6,7 +6,7 @@ ghost use Rattle.region_root.specs.Compact.{compact};
 ghost use Rattle.root_plain.specs.Plain.{plain};
 ghost use Rattle.work_run.specs.Workers.{Unused};
 ghost use Rattle.command_line.specs.Valid.{IsValid};
-ghost use Rattle.treedb.specs.Chosen.{flag_count};
+ghost use Rattle.command_line.specs.Rules.{flag_count};
 ghost use Rattle.treedb.specs.Answered.{AreAnswered};
 ghost use Rattle.treedb.specs.Filling.{AreInserted, AwaitsTrace, IsPartFor};
 ghost use Rattle.treedb.specs.ReadBack.{AwaitsLines, IfPrinted};

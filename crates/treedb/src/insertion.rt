@@ -1,5 +1,5 @@
 //! The lines of a trace are inserted into a store, in blocks that are dealt out to the workers, or that they
-//! draw.
+//! draw; or inserted and marked.
 ghost use Rattle.std.specs.Prelude.{◌≡◌, ◌≤◌, ◌^◌, All, IfOk, OnErr, length};
 ghost use Rattle.pair_rule.specs.Paths.{root_buckets};
 ghost use Rattle.pair_rule.specs.Rest.{AtRest, view};
@@ -9,9 +9,10 @@ ghost use Rattle.root_plain.specs.Plain.{plain};
 ghost use Rattle.tree_store.specs.Vectors.{IsVector};
 ghost use Rattle.work_run.specs.Enough.{HasBucketsFor, NoRootIsFull};
 ghost use Rattle.work_run.specs.Workers.{Unused};
+ghost use Rattle.command_line.specs.Rules.{flag_count};
 ghost use Rattle.command_line.specs.Valid.{IsValid};
 ghost use Rattle.treedb.specs.Filling.{HasInserted};
-ghost use Rattle.treedb.specs.Sharing.{draws};
+ghost use Rattle.treedb.specs.Sharing.{way_of};
 
 use command_line::{Choice, Job};
 use std::alloc::Global;
@@ -20,24 +21,47 @@ use std::thread::Threads;
 use tdb_base::{Gate, NoMemory, Reply};
 use trace_csv::Trace;
 use tree_store::{CompactPass, CompactStore, PlainPass, PlainStore};
-use work_run::{run_drawn, run_drawn_waiting, run_lines, run_lines_waiting};
+use work_run::{
+    mark_lines, mark_lines_waiting, run_drawn, run_drawn_waiting, run_lines, run_lines_waiting,
+};
 
-/// The reply to each line, and the worker that drew it where workers draw.
+/// What is done with the lines of a trace.
+#[derive(Clone, Copy)]
+pub enum Way {
+    /// Blocks are dealt out to the workers, and the lines inserted.
+    Deal,
+    /// Each worker draws its blocks, and the lines are inserted.
+    Draw,
+    /// Blocks are dealt out, and a flag of each line's vector is set right after its insertion.
+    Mark,
+}
+
+/// What is told of each line beside its reply.
+#[derive(Drop)]
+pub enum Beside {
+    Nothing,
+    /// The worker that drew it.
+    Drawers(Vec<u32>),
+    /// Whether its vector's flag was clear when it was set for the line.
+    Marks(Vec<bool>),
+}
+
+/// The reply to each line, and what is told beside it.
 #[derive(Drop)]
 pub struct Inserted {
     pub replies: Vec<Reply>,
-    pub drawn: Option<Vec<u32>>,
+    pub beside: Beside,
 }
 
-// Whether workers draw the blocks.
-fn are_drawn(choice: &Choice) -> bool
-    ensures { result ≡ draws choice.now }
+// What a choice does with its lines.
+fn way_of(choice: &Choice) -> Way
+    ensures { result ≡ way_of choice.now }
 {
-    choice.claims
-        && match choice.job {
-            Job::Insert | Job::Bench => true,
-            Job::Distinct | Job::Check => false,
-        }
+    match choice.job {
+        Job::Insert | Job::Bench => { if choice.claims { Way::Draw } else { Way::Deal } }
+        Job::Distinct | Job::Check => Way::Deal,
+        Job::Mark => Way::Mark,
+    }
 }
 
 /// Inserts the lines into a plain store, as the choice says. After `NoMemory` no line was inserted.
@@ -51,6 +75,7 @@ pub fn insert_plainly<R: Threads + Sync, G: Gate, const W: u32, const F: u32>(
     gate: &G,
 ) -> Result<Inserted, NoMemory>
     requires valid { IsValid choice.now }
+    requires flags { store.now.about.flags ≡ flag_count choice.now.profile }
     requires rest { AtRest plain store.now pass.old }
     requires lines { length trace.now ≤ 2 ^ 32 }
     requires fit { All (IsVector store.now.about) trace.now }
@@ -63,18 +88,26 @@ pub fn insert_plainly<R: Threads + Sync, G: Gate, const W: u32, const F: u32>(
 {
     let workers = choice.workers;
     let block = choice.block;
-    if are_drawn(choice) {
-        let (replies, drawn) = run_drawn(rt, alloc, store, pass, trace, workers, block, gate)?;
-        return Ok(Inserted {
-            replies,
-            drawn: Some(drawn),
-        });
+    match way_of(choice) {
+        Way::Deal => {
+            let replies = run_lines(rt, alloc, store, pass, trace, workers, block, gate)?;
+            let beside = Beside::Nothing;
+            Ok(Inserted { replies, beside })
+        }
+        Way::Draw => {
+            let (replies, drawn) = run_drawn(rt, alloc, store, pass, trace, workers, block, gate)?;
+            let beside = Beside::Drawers(drawn);
+            Ok(Inserted { replies, beside })
+        }
+        Way::Mark => {
+            let flag = choice.flag;
+            let (replies, firsts) = mark_lines(
+                rt, alloc, store, pass, trace, workers, block, flag, gate,
+            )?;
+            let beside = Beside::Marks(firsts);
+            Ok(Inserted { replies, beside })
+        }
     }
-    let replies = run_lines(rt, alloc, store, pass, trace, workers, block, gate)?;
-    Ok(Inserted {
-        replies,
-        drawn: None,
-    })
 }
 
 /// The same over a compact store, but an insertion may wait for the lock of a root's region.
@@ -88,6 +121,7 @@ pub fn insert_waiting<R: Threads + Wait + Sync, G: Gate, const W: u32, const F: 
     gate: &G,
 ) -> Result<Inserted, NoMemory>
     requires valid { IsValid choice.now }
+    requires flags { store.now.about.flags ≡ flag_count choice.now.profile }
     requires rest { AtRest (compact W F) store.now pass.old }
     requires lines { length trace.now ≤ 2 ^ 32 }
     requires fit { All (IsVector store.now.about) trace.now }
@@ -100,18 +134,26 @@ pub fn insert_waiting<R: Threads + Wait + Sync, G: Gate, const W: u32, const F: 
 {
     let workers = choice.workers;
     let block = choice.block;
-    if are_drawn(choice) {
-        let (replies, drawn) = run_drawn_waiting(
-            rt, alloc, store, pass, trace, workers, block, gate,
-        )?;
-        return Ok(Inserted {
-            replies,
-            drawn: Some(drawn),
-        });
+    match way_of(choice) {
+        Way::Deal => {
+            let replies = run_lines_waiting(rt, alloc, store, pass, trace, workers, block, gate)?;
+            let beside = Beside::Nothing;
+            Ok(Inserted { replies, beside })
+        }
+        Way::Draw => {
+            let (replies, drawn) = run_drawn_waiting(
+                rt, alloc, store, pass, trace, workers, block, gate,
+            )?;
+            let beside = Beside::Drawers(drawn);
+            Ok(Inserted { replies, beside })
+        }
+        Way::Mark => {
+            let flag = choice.flag;
+            let (replies, firsts) = mark_lines_waiting(
+                rt, alloc, store, pass, trace, workers, block, flag, gate,
+            )?;
+            let beside = Beside::Marks(firsts);
+            Ok(Inserted { replies, beside })
+        }
     }
-    let replies = run_lines_waiting(rt, alloc, store, pass, trace, workers, block, gate)?;
-    Ok(Inserted {
-        replies,
-        drawn: None,
-    })
 }

@@ -1,5 +1,5 @@
 //! What a run that inserts lines writes.
-ghost use Rattle.std.specs.Prelude.{◌≡◌, ◌≢◌, ◌≤◌, All, IfSome, OnErr, OnOk, count_by, false, length, true};
+ghost use Rattle.std.specs.Prelude.{◌≡◌, ◌≢◌, ◌≤◌, All, OnErr, OnOk, count_by, false, length, true};
 ghost use Rattle.std.specs.Io.KnownBytes.{Appends};
 ghost use Rattle.tdb_base.specs.Causes.{HasCause, Rose};
 ghost use Rattle.tdb_base.specs.History.{History};
@@ -10,18 +10,19 @@ ghost use Rattle.trace_csv.specs.Report.{summary_of, summary_text};
 ghost use Rattle.trace_csv.specs.Vectors.{vectors_text};
 ghost use Rattle.treedb.specs.Chosen.{is_check};
 ghost use Rattle.treedb.specs.ReadBack.{AreThere, IfPrinted, IsReadBack, vectors};
-ghost use Rattle.treedb.specs.Sharing.{IsSharing, drawn_of, report_of};
+ghost use Rattle.treedb.specs.Sharing.{HasOneEach, IsTreated, report_of, treated};
 ghost use Rattle.treedb.specs.Writing.{WritesAnswered, WritesText, ended_with};
 
 use crate::distinct::ReadBack;
 use crate::ended::Ended;
 use crate::fill::Answered;
-use crate::insertion::Inserted;
+use crate::insertion::{Beside, Inserted};
 use crate::stats::summary;
 use command_line::{Choice, Job};
 use tdb_base::{Reply, Sink};
 use trace_csv::{
-    Stats, Summary, WriteFault, write_drawn, write_report, write_summary, write_vectors,
+    Stats, Summary, WriteFault, write_drawn, write_marks, write_report, write_summary,
+    write_vectors,
 };
 
 // How a run ends whose text was written.
@@ -35,7 +36,7 @@ fn ended(replies: &[Reply]) -> Ended
     Ended::Done
 }
 
-// Writes the report of all replies, with who drew each line where workers drew.
+// Writes the report of all replies, with who drew each line or how it was marked, where that is told.
 fn write_lines<K: Sink>(
     inserted: &Inserted,
     summary: &Summary,
@@ -43,19 +44,19 @@ fn write_lines<K: Sink>(
 ) -> Result<(), WriteFault>
     requires lines { summary.now.lines ≡ length inserted.now.replies.items }
     requires distinct { summary.now.distinct ≡ count_by is_new inserted.now.replies.items }
-    requires workers { IfSome (drawn_of inserted.now)
-        (λ drawn. length drawn ≡ length inserted.now.replies.items) }
+    requires beside { HasOneEach (treated inserted.now) inserted.now.replies.items }
     ensures ok { OnOk result (Appends (K.taken sink.old) (K.taken sink.new)
-        (report_of (drawn_of inserted.now) inserted.now.replies.items summary.now)) }
+        (report_of (treated inserted.now) inserted.now.replies.items summary.now)) }
     ensures fit { OnOk result (All HasWordId inserted.now.replies.items) }
     ensures settled { OnOk result (K.settled sink.new ≡ true) }
     ensures front { OnErr result (TakesFront (K.taken sink.old) (K.taken sink.new)
-        (report_of (drawn_of inserted.now) inserted.now.replies.items summary.now)) }
+        (report_of (treated inserted.now) inserted.now.replies.items summary.now)) }
     ensures cause { HasCause (K.faults sink.old) (K.faults sink.new) result }
 {
-    match &inserted.drawn {
-        Some(drawn) => write_drawn(&inserted.replies, drawn, summary, sink),
-        None => write_report(&inserted.replies, summary, sink),
+    match &inserted.beside {
+        Beside::Nothing => write_report(&inserted.replies, summary, sink),
+        Beside::Drawers(drawn) => write_drawn(&inserted.replies, drawn, summary, sink),
+        Beside::Marks(firsts) => write_marks(&inserted.replies, firsts, summary, sink),
     }
 }
 
@@ -63,9 +64,8 @@ fn write_lines<K: Sink>(
 //
 // `WriteFault` comes only where the sink's count of faults rose, and leaves a front of the text.
 fn write_replies<K: Sink>(inserted: &Inserted, stats: Option<Stats>, sink: &mut K) -> Ended
-    requires workers { IfSome (drawn_of inserted.now)
-        (λ drawn. length drawn ≡ length inserted.now.replies.items) }
-    ensures written { WritesText (report_of (drawn_of inserted.now) inserted.now.replies.items
+    requires beside { HasOneEach (treated inserted.now) inserted.now.replies.items }
+    ensures written { WritesText (report_of (treated inserted.now) inserted.now.replies.items
         (summary_of inserted.now.replies.items stats)) inserted.now.replies.items
         (K.taken sink.old) (K.taken sink.new) result }
     ensures fit { result ≢ Ended.WriteFault → All HasWordId inserted.now.replies.items }
@@ -117,8 +117,8 @@ fn write_distinct<K: Sink>(read: &ReadBack, replies: &[Reply], sink: &mut K) -> 
 pub fn write_answered<K: Sink>(choice: &Choice, answered: &Answered, sink: &mut K) -> Ended
     requires inserts { is_check choice.now.job ≡ false }
     requires workers { choice.now.workers ≤ 64 }
-    requires shared { IsSharing choice.now (length answered.now.inserted.replies.items)
-        (drawn_of answered.now.inserted) }
+    requires shared { IsTreated choice.now (length answered.now.inserted.replies.items)
+        answered.now.inserted.replies.items (treated answered.now.inserted) }
     requires read { (h : History) × IfPrinted choice.now.job answered.now.vectors (IsReadBack h) }
     ensures { (h : History) → IfPrinted choice.now.job answered.now.vectors (IsReadBack h)
         → WritesAnswered choice.now answered.now h
@@ -126,7 +126,7 @@ pub fn write_answered<K: Sink>(choice: &Choice, answered: &Answered, sink: &mut 
         result }
 {
     match choice.job {
-        Job::Insert => write_replies(&answered.inserted, answered.stats, sink),
+        Job::Insert | Job::Mark => write_replies(&answered.inserted, answered.stats, sink),
         Job::Distinct => match &answered.vectors {
             Some(vectors) => write_distinct(vectors, &answered.inserted.replies, sink),
             None => unreachable!(),

@@ -6,7 +6,7 @@ ghost use Rattle.pair_rule.specs.Rest.{AtRest, Whole, view};
 ghost use Rattle.pair_rule.specs.View.{newcomer};
 ghost use Rattle.tree_store.specs.Ranges.{IsFirstOut};
 ghost use Rattle.command_line.specs.Valid.{IsValid};
-ghost use Rattle.treedb.specs.Chosen.{flag_count};
+ghost use Rattle.command_line.specs.Rules.{flag_count};
 ghost use Rattle.treedb.specs.Filling.{AreSizesOf, AwaitsTrace, FitMode, IsPartFor};
 
 use crate::distinct::{ReadBack, take_room};

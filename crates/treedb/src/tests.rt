@@ -8,6 +8,7 @@ mod claims;
 mod compact;
 mod distinct;
 mod faults;
+mod marks;
 mod notes;
 mod schedules;
 

@@ -131,7 +131,14 @@ fn calls_nothing_behind_a_refusal(rt: HostRuntime) -> Result<(), Fail> {
         ..SOUND
     };
     let words = ["insert", "--mode", "fast"];
-    let ran = run_on(&rt, alloc, &words, b"3,5\n".to_vec(alloc)?, devices, &NoGate)?;
+    let ran = run_on(
+        &rt,
+        alloc,
+        &words,
+        b"3,5\n".to_vec(alloc)?,
+        devices,
+        &NoGate,
+    )?;
     assert_eq!(rt; ran.status, Status::Usage);
     let Ran {
         mut source,
@@ -142,7 +149,14 @@ fn calls_nothing_behind_a_refusal(rt: HostRuntime) -> Result<(), Fail> {
     assert!(rt; text.write(b"x").is_err());
 
     let devices = Devices { write: 1, ..SOUND };
-    let ran = run_on(&rt, alloc, &["insert"], b"1,x".to_vec(alloc)?, devices, &NoGate)?;
+    let ran = run_on(
+        &rt,
+        alloc,
+        &["insert"],
+        b"1,x".to_vec(alloc)?,
+        devices,
+        &NoGate,
+    )?;
     assert_eq!(rt; ran.status, Status::BadTrace);
     let Ran { mut text, .. } = ran;
     assert!(rt; text.write(b"x").is_err());
@@ -159,7 +173,13 @@ fn needs_no_device_that_fails(rt: HostRuntime) -> Result<(), Fail> {
         let mut text = SureSink::new();
         let mut notes = SureSink::new();
         let status = run(
-            &rt, alloc, &words, &mut source, &mut text, &mut notes, &NoGate,
+            &rt,
+            alloc,
+            &words,
+            &mut source,
+            &mut text,
+            &mut notes,
+            &NoGate,
         );
         assert_eq!(rt; status, Status::Done);
     }
@@ -169,7 +189,14 @@ fn needs_no_device_that_fails(rt: HostRuntime) -> Result<(), Fail> {
 #[test]
 fn refuses_a_field_that_is_no_text(rt: HostRuntime) -> Result<(), Fail> {
     let alloc = rt.alloc();
-    let ran = run_on(&rt, alloc, &["insert"], b"1,\xff\n".to_vec(alloc)?, SOUND, &NoGate)?;
+    let ran = run_on(
+        &rt,
+        alloc,
+        &["insert"],
+        b"1,\xff\n".to_vec(alloc)?,
+        SOUND,
+        &NoGate,
+    )?;
     assert_eq!(rt; ran.status, Status::BadTrace);
     assert!(rt; ran.text.bytes().is_empty());
     assert_eq!(rt;

@@ -13,10 +13,10 @@ const NOTES: [(Ended, u8, &str); 17] = [
     (
         Ended::Usage,
         2,
-        "usage: treedb insert|distinct|bench|check [--mode plain|compact] [--profile 16|28|31]
+        "usage: treedb insert|distinct|bench|check|mark [--mode plain|compact] [--profile 16|28|31]
   [--workers N] [--block N] [--nodes D] [--roots R] [--region S] [--probe P]
   [--stats] [--lines N] [--slots K] [--values M] [--seed S]
-  [--claims]
+  [--claims] [--flag B]
 ",
     ),
     (

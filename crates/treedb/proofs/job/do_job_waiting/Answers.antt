@@ -1,7 +1,7 @@
 use Rattle.std.proofs.Common.{◌≢◌, ℕ, refl, rules, subst, sym}
 use Rattle.std.specs.Prelude.{Ok, Err}
 use Rattle.command_line.specs.declared.outcome.Job.TheVariants.{Check}
-use Rattle.treedb.specs.Sharing.{IsSharing, drawn_of}
+use Rattle.treedb.specs.Sharing.{IsTreated, treated}
 use Rattle.treedb.proofs.LineLemmas.{not_check}
 use Rattle.treedb.proofs.Outcomes.{answered_end, has_input, out_of_memory, stopped}
 use Rattle.treedb.proofs.job.do_job_waiting.Goals as goal
@@ -29,7 +29,7 @@ write_answered-requires g c =
     record {
       inserts = not_check c.args.choice.now.job other;
       workers = c.requires.valid.in_range.workers.1;
-      shared = subst (λ (n : ℕ). IsSharing c.args.choice.now n (drawn_of c.in-Ok-insert_lines_waiting.answered.inserted)) (sym answered.agrees.among.one_each) answered.shared;
+      shared = subst (λ (n : ℕ). IsTreated c.args.choice.now n c.in-Ok-insert_lines_waiting.answered.inserted.replies.items (treated c.in-Ok-insert_lines_waiting.answered.inserted)) (sym answered.agrees.among.one_each) answered.shared;
       read = (answered.history, answered.vectors);
     }
 

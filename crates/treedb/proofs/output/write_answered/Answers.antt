@@ -6,23 +6,25 @@ use Rattle.treedb.specs.ReadBack.{IfPrinted, IsReadBack, vectors}
 use Rattle.treedb.specs.Run.{IsText, TellsOnly}
 use Rattle.treedb.specs.declared.distinct.ReadBack.{ReadBack}
 use Rattle.treedb.proofs.NewLemmas.{printed-distinct}
-use Rattle.treedb.specs.Sharing.{drawn_of, report_of}
-use Rattle.treedb.proofs.SharingLemmas.{tells-replies}
+use Rattle.treedb.specs.Sharing.{report_of, treated}
+use Rattle.treedb.proofs.SharingLemmas.{of-reporter, tells-replies}
 use Rattle.treedb.proofs.output.write_answered.Goals as goal
 
 pub returns-in-Insert : goal.returns-in-Insert
 returns-in-Insert g c = λ h read.
     let a = c.args.answered.now in
     let replies = a.inserted.replies.items in
-    let drawn = drawn_of a.inserted in
-    let text = report_of drawn replies (summary_of replies a.stats) in
+    let told = treated a.inserted in
+    let text = report_of told replies (summary_of replies a.stats) in
     let w = c.write_replies.ensures in
     let job = c.in-Insert.is in
     record {
       text = text;
-      is_text = subst (λ (j : Job). IsText j replies (drawn_of a.inserted) h a.stats text) (sym job) refl;
+      is_text = of-reporter (λ (j : Job). IsText j replies told h a.stats text) refl refl c.args.choice.now.job job;
       written = w.written;
-      only = λ calm. subst (λ (j : Job). TellsOnly j replies (drawn_of a.inserted) text) (sym job) (tells-replies c.args.choice.now replies drawn a.stats c.requires.workers c.requires.shared (w.fit calm));
+      only = λ calm.
+          (let tells = tells-replies c.args.choice.now replies told a.stats c.requires.workers c.requires.shared (w.fit calm) in
+          of-reporter (λ (j : Job). TellsOnly j replies told text) tells tells c.args.choice.now.job job);
       settled = w.settled;
       fault = w.fault;
     }
@@ -47,9 +49,9 @@ returns-in-Some g c = λ h read.
     let printed = printed-distinct choice.job back (IsReadBack h) job (subst (λ (o : Option ReadBack). IfPrinted choice.job o (IsReadBack h)) c.in-Some.is read) in
     record {
       text = text;
-      is_text = subst (λ (j : Job). IsText j replies (drawn_of a.inserted) h a.stats text) (sym job) (record { sorted = vectors back; set = printed.set; written = refl });
+      is_text = subst (λ (j : Job). IsText j replies (treated a.inserted) h a.stats text) (sym job) (record { sorted = vectors back; set = printed.set; written = refl });
       written = w.written;
-      only = λ calm. subst (λ (j : Job). TellsOnly j replies (drawn_of a.inserted) text) (sym job) tt;
+      only = λ calm. subst (λ (j : Job). TellsOnly j replies (treated a.inserted) text) (sym job) tt;
       settled = w.settled;
       fault = w.fault;
     }
@@ -63,9 +65,9 @@ returns-in-Bench g c = λ h read.
     let job = c.in-Bench.is in
     record {
       text = text;
-      is_text = subst (λ (j : Job). IsText j replies (drawn_of a.inserted) h a.stats text) (sym job) refl;
+      is_text = subst (λ (j : Job). IsText j replies (treated a.inserted) h a.stats text) (sym job) refl;
       written = w.written;
-      only = λ calm. subst (λ (j : Job). TellsOnly j replies (drawn_of a.inserted) text) (sym job) tt;
+      only = λ calm. subst (λ (j : Job). TellsOnly j replies (treated a.inserted) text) (sym job) tt;
       settled = w.settled;
       fault = w.fault;
     }

@@ -3,7 +3,7 @@ use Rattle.std.specs.Prelude.{All, ◌<◌, ◌^◌}
 use Rattle.tdb_base.specs.History.{Vector}
 use Rattle.command_line.specs.Sizes.{AreTableSizes}
 use Rattle.pair_rule.specs.declared.sizes.Sizes.{Sizes}
-use Rattle.treedb.specs.Chosen.{flag_count}
+use Rattle.command_line.specs.Rules.{flag_count}
 use Rattle.tree_store.specs.Ranges.{IsFirstOut}
 use Rattle.treedb.specs.ReadBack.{AwaitsLines, IfPrinted}
 use Rattle.treedb.proofs.store.make_ready.Goals as goal
