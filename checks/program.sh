@@ -102,6 +102,28 @@ check_drawn() {
   tell_names "$name" "$trace" "$was" "$faults"
 }
 
+# check_marks NAME TRACE WORKERS BLOCK WORDS..: a report of lines that so many workers marked: each line ends in first or again, of the lines of each vector one
+# is first, the count of these is that of the vectors, and without all this it is a report as any
+check_marks() {
+  local name=$1 trace=$2 workers=$3 block=$4
+  shift 4
+  ./treedb mark "$@" --workers "$workers" --block "$block" < "$trace" > "$work/marked" 2> "$work/notes"
+  local was=$?
+  local faults
+  faults=$(awk -F, -v trace="$trace" '
+    FILENAME == trace { line[FNR] = $0; if (!($0 in met)) { met[$0]; vectors++ } next }
+    NF == 4 {
+      if ($4 == "first") { if (first[line[FNR]]++) print "line " FNR ": first again" } else if ($4 != "again") print "line " FNR ": its mark"
+      next
+    }
+    /^marked / { if ($0 != "marked " vectors || before != "distinct " vectors) print $0; counted++ }
+    { before = $0 }
+    !/^(lines|distinct|marked) [0-9]+$/ { print "line " FNR ": its fields" }
+    END { for (v in met) if (!(v in first)) { print "never first: " v; exit } if (counted != 1) print "no count" }' "$trace" "$work/marked" | head -n 3)
+  sed '/^marked /d; s/^\([^,]*,[^,]*,[^,]*\),[^,]*$/\1/' "$work/marked" > "$work/got"
+  tell_names "$name" "$trace" "$was" "$faults"
+}
+
 ./treedb insert < examples/pairs.csv > /dev/null 2>&1 # builds on first use
 awk 'BEGIN { x = 7; for (i = 0; i < 200000; i++) { x = (x * 16807) % 2147483647; print x % 997 "," int(x / 1000) % 499 } }' > "$work/pairs.csv"
 awk 'BEGIN { x = 7; for (i = 0; i < 100000; i++) { x = (x * 16807) % 2147483647; v[x % 9] = int(x / 1000) % 3
@@ -123,6 +145,18 @@ check_drawn "a walk of 100,000 lines, drawn by one worker" "$work/walk.csv" 1 64
 check_drawn "a walk of 100,000 lines, drawn by 8 workers" "$work/walk.csv" 8 64 insert
 check_drawn "a walk of 100,000 lines, drawn line by line by 64 workers" "$work/walk.csv" 64 1 insert
 check_drawn "the same in compact mode" "$work/walk.csv" 64 1 insert --mode compact
+
+wants '1,805306373,new,first\n2,1342177283,new,first\n3,805306373,seen,again\nlines 3\ndistinct 2\nmarked 2\n'
+check "three pairs that are marked" 0 "" mark --mode compact --flag 6 < examples/pairs.csv
+wants '1,0,new,first\n2,3,new,first\n3,6,new,first\n4,7,new,first\n5,2,new,first\n6,1,new,first\n7,4,new,first\n8,5,new,first\n9,,full-roots\nlines 9\ndistinct 8\nmarked 8\n'
+check "a full line that is not marked" 5 "treedb: 1 lines full" mark --roots 3 < <(printf '0,0\n0,1\n0,2\n0,3\n0,4\n0,5\n0,6\n0,7\n0,8\n')
+for mode in plain compact; do
+  check_marks "Peterson's protocol, marked by one worker in $mode mode" examples/peterson.csv 1 64 --mode $mode
+  check_marks "200,000 drawn pairs, marked by 8 workers in $mode mode" "$work/pairs.csv" 8 64 --mode $mode
+  for workers in 2 7 64; do
+    check_marks "a walk of 100,000 lines, marked line by line by $workers workers in $mode mode" "$work/walk.csv" $workers 1 --mode $mode
+  done
+done
 
 awk 'BEGIN { x = 11; for (i = 0; i < 1000000; i++) { x = (x * 16807) % 2147483647; print x % 2003 "," int(x / 1000) % 499 } }' > "$work/million.csv"
 check_names "a million lines" "$work/million.csv" insert --workers 2
@@ -180,9 +214,10 @@ check "no input" 3 "treedb: no records" insert < /dev/null
 check "a record of one field" 3 "treedb: record 2 has 1 fields, the first has 2" insert < <(printf '1,2\n1\n')
 check "a number that is too big" 3 "treedb: record 1 field 1 is too big" insert < <(printf '268435456,0\n')
 check "one byte over the limit" 4 "treedb: input is over 67108864 bytes" insert < <(head -c 67108865 /dev/zero | tr '\0' '0')
-usage='usage: treedb insert|distinct|bench|check [--mode plain|compact] [--profile 16|28|31]'
+usage='usage: treedb insert|distinct|bench|check|mark [--mode plain|compact] [--profile 16|28|31]'
 check "no words" 2 "$usage" < examples/pairs.csv
 check "another mode" 2 "$usage" insert --mode fast < examples/pairs.csv
+check "a flag that the profile hasn't" 2 "$usage" mark --profile 31 --flag 1 < examples/pairs.csv
 check "a word that is no text" 2 "$usage" insert --mode $'\xff' < examples/pairs.csv
 check "a folder for input" 6 "treedb: read fault" insert < .
 
