@@ -7,6 +7,7 @@ ghost use Rattle.measure.specs.Asked.{IsAsked};
 mod callers;
 mod calls;
 mod clock;
+mod flags;
 mod locks;
 mod nodes;
 mod read_trace;
@@ -50,6 +51,7 @@ fn time<H: Threads + Wait + Sync>(
         "region" => time_region(rt, words),
         "roots" => time_roots(rt, handle, words),
         "locks" => count_locks(rt, handle, words),
+        "flags" => time_flags(rt, words),
         _ => Ok(None),
     }
 }
@@ -158,4 +160,14 @@ fn count_locks<H: Threads + Wait + Sync>(
         probe: 4_194_304,
     };
     Ok(Some(locks::count(rt, handle, &sizes, workers)?))
+}
+
+fn time_flags(rt: &HostRuntime, words: &[String]) -> io::Result<Option<ExitCode>> {
+    let Some(roots) = number(words, 2, 6, 24, 20) else {
+        return Ok(None);
+    };
+    if words.len() > 3 {
+        return Ok(None);
+    }
+    Ok(Some(flags::time(rt, roots as u32)?))
 }
