@@ -8,6 +8,7 @@ mod callers;
 mod calls;
 mod claims;
 mod clock;
+mod flags;
 mod input;
 mod locks;
 mod nodes;
@@ -53,6 +54,7 @@ fn time<H: Threads + Wait + Sync>(
         "roots" => time_roots(rt, handle, words),
         "locks" => count_locks(rt, handle, words),
         "claims" => time_claims(rt, handle, words),
+        "flags" => time_flags(rt, words),
         _ => Ok(None),
     }
 }
@@ -182,4 +184,14 @@ fn time_claims<H: Threads + Sync>(
     }
     let sharing = claims::Sharing { workers, block };
     Ok(Some(claims::time(rt, handle, sharing, rounds)?))
+}
+
+fn time_flags(rt: &HostRuntime, words: &[String]) -> io::Result<Option<ExitCode>> {
+    let Some(roots) = number(words, 2, 6, 24, 20) else {
+        return Ok(None);
+    };
+    if words.len() > 3 {
+        return Ok(None);
+    }
+    Ok(Some(flags::time(rt, roots as u32)?))
 }

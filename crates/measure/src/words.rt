@@ -6,7 +6,7 @@ ghost use Rattle.std.specs.Prelude.{◌≤◌, IfSome};
 pub const USAGE: &str = "usage: measure read-trace [TRIES] | nodes [D [THREADS]] | \
     region [S [FILL [ROUNDS]]] | \
     roots [TABLES [S [FILL [PUTS [LOOKS [THREADS [R]]]]]]] | \
-    locks [WORKERS [R [S]]] | claims [WORKERS [BLOCK [ROUNDS]]]";
+    locks [WORKERS [R [S]]] | claims [WORKERS [BLOCK [ROUNDS]]] | flags [R]";
 
 /// The number that the word at this place writes, from `low` to `high`; `otherwise`, where no word stands
 /// there.

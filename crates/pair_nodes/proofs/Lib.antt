@@ -1,3 +1,4 @@
 pub mod Views
 pub mod Lines
 pub mod Looks
+pub mod PassLaws

@@ -3,6 +3,7 @@
 #![tactic(auto)]
 
 mod flag;
+pub mod laws;
 mod nodes;
 mod probe;
 mod roots;

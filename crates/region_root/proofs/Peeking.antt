@@ -91,7 +91,7 @@ module _ (width flags : ℕ) (store : Store) (is : IsTable width flags (compact 
   root_q : (view q).root ≡ seconded m q2 t_root
   root_q = cl.root_is ∙ ap (λ (v : V). seconded m q2 v.root) t_is
 
-  reader_q : (view q).root.reader ≡ (record q2 { second = m }) ∷ []
+  reader_q : (view q).root.reader ≡ (record q2 { second = Some m }) ∷ []
   reader_q = ap (λ (r : Regions). r.reader) root_q
 
   others : q ≡ record p { seat = q.seat }
@@ -106,13 +106,14 @@ module _ (width flags : ℕ) (store : Store) (is : IsTable width flags (compact 
 
   -- another value at the second look
   pub looked_changed : m ≢ n → Looked store.about x false (view p).root (view q).root
-  looked_changed ne = record { reader = record q2 { second = m }; knows = root_q; pair_is = refl; region_is = here; answer = inr (refl, inr ne) }
+  looked_changed ne = record { reader = record q2 { second = Some m }; knows = root_q; pair_is = refl; region_is = here; answer = inr (refl, inr (m, refl, ne)) }
 
   pub changed : m ≢ n → RootChanged width flags store x p q
   changed ne = record {
     rest = rest_q;
     no_call = still width flags store (view p) (view q) (view p).busy _ (cl.changed (λ w. ne w.same) ∙ ap (λ (v : V). record v { root = seconded m q2 v.root }) t_is) rest_q.seat.sound;
-    cause = λ r reader. let one = head_of (record q2 { second = m }) r (view q).root.reader reader_q reader in inr (subst (λ (y : Reading). y.second ≢ y.first) one ne);
+    cause = λ r reader. let one = head_of (record q2 { second = Some m }) r (view q).root.reader reader_q reader in
+        inr (m, subst (λ (y : Reading). y.second ≡ Some m) one refl, subst (λ (y : Reading). m ≢ y.first) one ne);
     buffers = others;
   }
 
@@ -131,11 +132,11 @@ module _ (width flags : ℕ) (store : Store) (is : IsTable width flags (compact 
 
     pub looked : (found : Bool) → FindsRoot store.about x t found → Looked store.about x found (view p).root (view q).root
     looked found f = record {
-      reader = record q2 { second = m };
+      reader = record q2 { second = Some m };
       knows = root_q;
       pair_is = refl;
       region_is = here;
-      answer = inl (record { same = unchanged.same; even = unchanged.even; low = unchanged.low }, λ words map long at keeps inside. f.decides words map long (loaded_in words at) keeps inside);
+      answer = inl ((m, refl, record { same = unchanged.same; even = unchanged.even; low = unchanged.low }), λ words map long at keeps inside. f.decides words map long (loaded_in words at) keeps inside);
     }
 
     decides : (found : Bool) → FindsRoot store.about x t found → MatchBool found ((f : ℕ) × Has (x, f) b.map) ((f : ℕ) → Has (x, f) b.map → ⊥)
@@ -165,7 +166,7 @@ module _ (width flags : ℕ) (store : Store) (is : IsTable width flags (compact 
           no_call = k.0;
           no_id = no_id;
           no_name = λ vector stands long. no_vector width flags store p q x rest_q k.0.known no_id vector stands;
-          looks = λ r reader. let one = head_of (record q2 { second = m }) r (view q).root.reader reader_q reader in
-              subst (λ (y : Reading). Unchanged y.second y) one record { same = unchanged.same; even = unchanged.even; low = unchanged.low };
+          looks = λ r reader. let one = head_of (record q2 { second = Some m }) r (view q).root.reader reader_q reader in
+              (m, subst (λ (y : Reading). y.second ≡ Some m) one refl, subst (λ (y : Reading). Unchanged m y) one record { same = unchanged.same; even = unchanged.even; low = unchanged.low });
           buffers = others;
         }

@@ -113,7 +113,7 @@ module _ (S : Type 0) (about : About) where
         (λ x. quiet_root about r.log (r.log ++ x.more) (after s.words) s.views id v (catch v r.holder.1 (r.log ++ x.more) v.busy then) r.rooted e
         (λ k m is. dite (ℕ_discrete k g) (λ z. subst (λ (j : ℕ). IsMapOf about j (r.log ++ x.more) m) (sym z) (map_alike about g r.log (r.log ++ x.more) free.map m free.is_map (subst (λ (j : ℕ). IsMapOf about j r.log m) z is) x.here)) (λ ne. x.others k m ne is))
         x.packed refl refl
-        (λ q' a. ⊎_elim (λ (z : q' ≡ record q { second = n }). subst (ReadsRegion about (after s.words)) (sym z) record { inside = rq.inside; above = rq.above; same = rq.same }) (λ (no : ⊥). absurd no) a))
+        (λ q' a. ⊎_elim (λ (z : q' ≡ record q { second = Some n }). subst (ReadsRegion about (after s.words)) (sym z) record { inside = rq.inside; above = rq.above; same = rq.same }) (λ (no : ⊥). absurd no) a))
 
     -- what the reader learns, with the rule
     record Learns : Type 0 where
@@ -201,7 +201,7 @@ module _ (S : Type 0) (about : About) where
         w,
         keeps,
         tt,
-        still s id word me.0 w me.1 (reader_is s r id me.0 (record q { second = n }) me.0.root.peeks e record { inside = rq.inside; above = rq.above; same = rq.same }),
+        still s id word me.0 w me.1 (reader_is s r id me.0 (record q { second = Some n }) me.0.root.peeks e record { inside = rq.inside; above = rq.above; same = rq.same }),
         told w record { root_is = refl; busy_stays = refl; changed = λ _. refl; believed = λ u. absurd (no u) },
       ))
       (to_believe n q)

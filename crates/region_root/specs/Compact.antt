@@ -107,9 +107,13 @@ pub record Unchanged (n : ℕ) (q : Reading) : Type 0 where
   pub even : IsEven n
   pub low : n < last
 
--- It was odd or its last even value at the first look, or another one at the second.
+-- There was a second look, and so it was.
+abbrev pub StaysFree : Reading → Type 0
+StaysFree q = (n : ℕ) × (q.second ≡ Some n) × Unchanged n q
+
+-- It was odd or its last even value at the first look; or there was a second look, which found another one.
 abbrev pub LockChanged : Reading → Type 0
-LockChanged q = (IsOdd q.first ⊎ (q.first ≡ last)) ⊎ (q.second ≢ q.first)
+LockChanged q = (IsOdd q.first ⊎ (q.first ≡ last)) ⊎ ((n : ℕ) × (q.second ≡ Some n) × (n ≢ q.first))
 
 -- What was loaded decides of the root x: whatever words of its region have it at its places and keep some
 -- map, the answer says whether that map has the root.
@@ -127,7 +131,7 @@ pub record Looked (about : About) (x : ℕ) (found : Bool) (t u : Regions) : Typ
   pub knows : u ≡ record t { reader = reader ∷ []; peeks = suc t.peeks }
   pub pair_is : reader.pair ≡ x
   pub region_is : reader.region ≡ region_of about x
-  pub answer : (Unchanged reader.second reader × LoadsTell about x reader.loads found)
+  pub answer : (StaysFree reader × LoadsTell about x reader.loads found)
       ⊎ ((found ≡ false) × LockChanged reader)
 
 -- One lock was taken and given back; the reader part is as it was.

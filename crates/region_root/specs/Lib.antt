@@ -8,3 +8,4 @@ pub mod Work
 pub mod Reached
 pub mod Told
 pub mod Refused
+pub mod PassLaws

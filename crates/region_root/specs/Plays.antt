@@ -56,7 +56,7 @@ recopied copy h v = record v { root = record v.root { held = (record h { copy = 
 
 -- a reader of the region g, which wants the root x, found n in the lock word
 abbrev pub reading : ℕ → ℕ → ℕ → Reading
-reading g x n = record { region = g; pair = x; first = n; loads = []; second = 0 }
+reading g x n = record { region = g; pair = x; first = n; loads = []; second = None }
 
 abbrev pub peeking : Reading → View Regions → View Regions
 peeking q v = record v { root = record v.root { reader = q ∷ []; peeks = suc v.root.peeks } }
@@ -67,7 +67,7 @@ reloaded loads q v = record v { root = record v.root { reader = (record q { load
 
 -- it found n in the lock word at the second look
 abbrev pub seconded : ℕ → Reading → Regions → Regions
-seconded n q t = record t { reader = (record q { second = n }) ∷ [] }
+seconded n q t = record t { reader = (record q { second = Some n }) ∷ [] }
 
 -- after the unlock of the odd value: the next one, or the last even value again
 abbrev pub IsNextLock : ℕ → ℕ → Type 0

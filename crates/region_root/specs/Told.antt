@@ -23,7 +23,7 @@ use Rattle.region_root.specs.declared.root.Holding.{Holding}
 use Rattle.region_root.specs.declared.root.Reading.{Reading}
 use Rattle.region_root.specs.Layout.{words_each, most, region_of, KeepsRoots}
 use Rattle.region_root.specs.Maps.{InRegion, with_flag_set}
-use Rattle.region_root.specs.Compact.{Unchanged, LockChanged, compact}
+use Rattle.region_root.specs.Compact.{StaysFree, LockChanged, compact}
 use Rattle.region_root.specs.Plays.{Told}
 use Rattle.region_root.specs.Work.{HasLoaded}
 
@@ -49,8 +49,7 @@ pub record FindsRoot (about : About) (x : ℕ) (p : PassOf Regions) (answer : Bo
 
 module _ (width flags : ℕ) (store : Store) (x : ℕ) (old new : PassOf Regions) where
   -- at one moment the region's words had no such root: its vector has no name that the pass has then seen.
-  -- The
-  -- lock word was even, not its last even value, and the same at both looks
+  -- The lock word was even, not its last even value, and the same at both looks
   pub record RootAbsent : Type 0 where
     pub rest : AtRest (compact width flags) store new
     pub no_call : Caught (compact width flags) [] (view old) (view new)
@@ -58,12 +57,11 @@ module _ (width flags : ℕ) (store : Store) (x : ℕ) (old new : PassOf Regions
     pub no_name : (vector : Vector)
         → RootStands store.about.width store.about.slots (view old).known x vector
         → length vector ≡ store.about.slots → name_of (view new).seen vector ≡ None
-    pub looks : (q : Reading) → (view new).root.reader ≡ q ∷ [] → Unchanged q.second q
+    pub looks : (q : Reading) → (view new).root.reader ≡ q ∷ [] → StaysFree q
     pub buffers : new ≡ record old { seat = new.seat }
 
   -- a holder was there, or the lock word can't be trusted: it was odd or its last even value at the first
-  -- look,
-  -- or another one at the second
+  -- look, or another one at a second look
   pub record RootChanged : Type 0 where
     pub rest : AtRest (compact width flags) store new
     pub no_call : Caught (compact width flags) [] (view old) (view new)

@@ -5,6 +5,7 @@ mod access;
 mod find;
 mod flag;
 mod held;
+pub mod laws;
 mod lock;
 mod peek;
 mod plays;

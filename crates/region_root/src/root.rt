@@ -27,8 +27,8 @@ pub struct Reading {
     pub first: u64,
     /// What was loaded: each the place of a word in the region, and the word.
     pub loads: LinkedList<(u64, u64)>,
-    /// The lock word at the second look.
-    pub second: u64,
+    /// The lock word at the second look, once there was one.
+    pub second: Option<u64>,
 }
 
 /// What a pass knows of regions.

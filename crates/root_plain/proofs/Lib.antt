@@ -7,5 +7,4 @@ pub mod RootTurns
 pub mod FlagPasses
 pub mod RootPasses
 pub mod Probing
-pub mod PassLaws
 pub mod TwoSlots

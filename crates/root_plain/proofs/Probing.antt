@@ -27,7 +27,7 @@ use Rattle.pair_rule.specs.Calls.{IsNoName, Called}
 use Rattle.pair_rule.specs.Plays.{Caught}
 use Rattle.pair_rule.proofs.Calling.{caught_still, called_then}
 use Rattle.root_plain.specs.Plain.{plain}
-use Rattle.root_plain.specs.Refused.{roots_naming}
+use Rattle.pair_nodes.proofs.PassLaws.{roots_naming}
 use Rattle.root_plain.specs.Plays.{wants, Shows}
 use Rattle.root_plain.specs.Probe.{HasOther, Passes, Along}
 
@@ -158,7 +158,7 @@ module _ (store : Store) (p q : PassOf Roots) (width id n : ℕ) (u : Vector) (r
       let k = s.other t.0 t.1 refl in
       let had = rp.seat.sound.named.each u id name in
       let here = (s.pair t.0 t.1.0 t.1.1).0 in
-      let same : had.0 ≡ t.0 = (roots_naming store q rq).one_pair id had.0 t.0 (k.roots_stay id had.0 had.1) here in
+      let same : had.0 ≡ t.0 = (roots_naming plain store q rq).one_pair id had.0 t.0 (k.roots_stay id had.0 had.1) here in
       let read = pair_read store.about width n (subst IsPlain rp.seat.about_is rp.seat.sound.root_sound.is_about) wide t.0 (subst (λ (y : About). IsRoot y n t.0) rp.seat.about_is t.1) in
       (k, subst (λ (x : ℕ). Has (id, x) (view p).root.roots) (same ∙ sym read) had.1))
       s.word

@@ -1,7 +1,7 @@
 -- A root for which there was no place gets no name later, and there are few names.
 use Rattle.std.proofs.Common.{◌≡◌, ◌<◌, ◌≤◌, ◌-◌, ◌^◌, ℕ, arith, pow_pos, Option, Some, None, refl, sym, ap, ◌∙◌, subst}
-use Rattle.tree_shape.specs.Tree.{Has, IsNaming, IsPart, RootStands}
-use Rattle.tree_shape.proofs.Trees.{one_vector, one_root}
+use Rattle.tree_shape.specs.Tree.{Has, IsPart, RootStands}
+use Rattle.tree_shape.proofs.Trees.{one_root}
 use Rattle.tdb_base.specs.History.{Vector, name_of}
 use Rattle.tdb_base.proofs.NameLemmas.{names-differ}
 use Rattle.pair_rule.specs.declared.sizes.About.{About}
@@ -13,31 +13,9 @@ use Rattle.pair_rule.proofs.Names.{root_more}
 use Rattle.pair_rule.proofs.Counts.{few_names}
 use Rattle.std.proofs.Math.Pow.{pow_mono}
 use Rattle.pair_nodes.specs.Roots.{Refusals, HasFewNames}
+use Rattle.pair_nodes.proofs.PassLaws.{roots_naming}
 use Rattle.root_plain.specs.declared.root.Roots.{Roots}
 use Rattle.root_plain.specs.Plain.{IsPlain, Lies, plain}
-
--- the root pairs that a pass knows name identifiers: one pair each, and each pair's is one
-pub roots_naming : (store : Store) (p : PassOf Roots) → AtRest plain store p → IsNaming (view p).root.roots
-roots_naming store p r =
-    let s = r.seat.sound in
-    let known = (view p).known in
-    let is_plain = s.root_sound.is_about in
-    let v = view p in
-    record {
-      one_pair = λ id x y a b.
-          let m = s.named.only id x a in
-          let o = s.named.only id y b in
-          let one = names-differ v.about.flags v.seen s.legal m.0 o.0 id m.1 o.1 in
-          one_root v.about.width v.about.slots known s.nodes.naming x y o.0
-          (subst (λ (u : Vector). RootStands v.about.width v.about.slots known x u) one m.2) o.2;
-      one_index = λ i j x a b.
-          let m = s.named.only i x a in
-          let o = s.named.only j x b in
-          let one = one_vector v.about.width v.about.slots known s.nodes.naming x m.0 o.0
-          is_plain.range.least_slots m.3 o.3 m.2 o.2 in
-          let same : Some i ≡ Some j = sym m.1 ∙ (ap (λ (u : Vector). name_of v.seen u) one ∙ o.1) in
-          cc same;
-    }
 
 pub never_named : (store : Store) (p q : PassOf Roots) (pair : ℕ) (v : Vector) → AtRest plain store p
     → AtRest plain store q → IsPart (view p).known (view q).known
@@ -68,7 +46,7 @@ never_named store p q pair v rp rq known roots stands blocked = by (name_of (vie
         let there : Has (id, other.0) (view q).root.roots =
         subst (λ (i : ℕ). Has (i, other.0) (view q).root.roots) here
         (roots (bucket (root_buckets store.about) pair l.step) other.0 other.1) in
-        absurd (other.2 ((roots_naming store q rq).one_pair id other.0 k.0 there k.1 ∙ one))
+        absurd (other.2 ((roots_naming plain store q rq).one_pair id other.0 k.0 there k.1 ∙ one))
 
 -- a path has a step
 has_steps : (about : About) → IsPlain about → 0 < reach (root_buckets about)

@@ -9,6 +9,7 @@ ghost use Rattle.tree_store.specs.Store.{IfNamed};
 
 mod compact;
 mod crowd;
+mod flagged;
 mod flags;
 
 use crate::{CreateError, PlainPass, PlainStore, TreeStore};

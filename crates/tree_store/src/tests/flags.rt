@@ -1,74 +1,19 @@
 //! Flags of vectors, in a plain store and in a compact one: what each call answers, worked out from the calls
-//! before it, and that they outlive insertions which move the cells of a region.
-ghost use Rattle.std.specs.Prelude.{◌≡◌};
+//! before it; that they outlive insertions which move the cells of a region; and eight threads that turn the
+//! same flags.
+ghost use Rattle.std.specs.Prelude.{◌≡◌, All, IfOk};
 ghost use Rattle.pair_rule.specs.Rest.{AtRest};
-ghost use Rattle.region_root.specs.Compact.{compact};
-ghost use Rattle.root_plain.specs.Plain.{plain};
 
-use super::{compact, put, store};
-use crate::{CompactPass, CompactStore, PlainPass, PlainStore};
+use super::flagged::{CompactFlags, Doing, Flagged, PlainFlags};
+use super::{compact, store};
+use crate::TreeStore;
+use pair_rule::{Pass, PassOf, RootPart};
+use std::alloc::Global;
 use std::process::Abort;
-use std::sync::Wait;
 use std::test::Fail;
-use tdb_base::{Reply, Silent, Steps};
-
-// What is done to a vector's flags.
-#[derive(Clone, Copy)]
-enum Doing {
-    Set(u32),
-    Clear(u32),
-    Read,
-}
-
-// The vector is inserted, and this is done to its flags: its identifier, and 1 where a flag changed and 0
-// where it did not, or the flags that are read. `None` if it has no place.
-fn act_plain(
-    rt: &impl Abort,
-    store: &PlainStore<28, 7>,
-    pass: &mut PlainPass<28, 7>,
-    vector: &[u32],
-    doing: Doing,
-) -> Option<(u64, u64)>
-    requires flags { store.now.about.flags ≡ 7 }
-    requires rest { AtRest plain store.now pass.old }
-    ensures { AtRest plain store.now pass.new }
-{
-    let mut steps = Steps::new(Silent);
-    let (Reply::New(id) | Reply::Seen(id)) = put(rt, store, pass, vector, &mut steps) else {
-        return None;
-    };
-    let answer = match doing {
-        Doing::Set(b) => u64::from(store.set_flag(pass, id, b % 7)),
-        Doing::Clear(b) => u64::from(store.clear_flag(pass, id, b % 7)),
-        Doing::Read => store.flags(pass, id),
-    };
-    Some((id, answer))
-}
-
-// The same in a compact store.
-fn act_compact<H: Wait + Abort>(
-    rt: &H,
-    store: &CompactStore<16, 8>,
-    pass: &mut CompactPass<16, 8>,
-    vector: &[u32],
-    doing: Doing,
-) -> Option<(u64, u64)>
-    requires flags { store.now.about.flags ≡ 8 }
-    requires rest { AtRest (compact 16 8) store.now pass.old }
-    ensures { AtRest (compact 16 8) store.now pass.new }
-{
-    let mut steps = Steps::new(Silent);
-    let answered = compact::put(rt, store, pass, vector, &mut steps);
-    let (Reply::New(id) | Reply::Seen(id)) = answered else {
-        return None;
-    };
-    let answer = match doing {
-        Doing::Set(b) => u64::from(store.set_flag(rt, pass, id, b % 8)),
-        Doing::Clear(b) => u64::from(store.clear_flag(rt, pass, id, b % 8)),
-        Doing::Read => store.flags(rt, pass, id),
-    };
-    Some((id, answer))
-}
+use std::thread;
+use std::thread::Threads;
+use tdb_base::NoMemory;
 
 // What is done to the flags of one vector, in turn, and what that answers.
 static TURNS: [(Doing, u64); 8] = [
@@ -84,9 +29,13 @@ static TURNS: [(Doing, u64); 8] = [
 
 #[test]
 fn flags_of_a_plain_store(rt: HostRuntime) -> Result<(), Fail> {
-    let (store, mut pass) = store::<28, 7>(&rt, rt.alloc(), 2, 3);
+    let (store, mut pass) = store::<16, 8>(&rt, rt.alloc(), 2, 3);
+    let flags = PlainFlags {
+        rt: &rt,
+        store: &store,
+    };
     for (doing, answer) in &TURNS {
-        assert!(rt; act_plain(&rt, &store, &mut pass, &[3, 5], *doing) == Some((4, *answer)));
+        assert!(rt; flags.act(&mut pass, &[3, 5], *doing) == Some((0, *answer)));
     }
     Ok(())
 }
@@ -95,12 +44,188 @@ fn flags_of_a_plain_store(rt: HostRuntime) -> Result<(), Fail> {
 #[test]
 fn flags_stay_while_a_region_fills(rt: HostRuntime) -> Result<(), Fail> {
     let (store, mut pass) = compact::store::<16, 8>(&rt, rt.alloc(), 2, 3, 6);
-    assert!(rt; act_compact(&rt, &store, &mut pass, &[0, 0], Doing::Set(7)) == Some((0, 1)));
+    let flags = CompactFlags {
+        rt: &rt,
+        store: &store,
+    };
+    assert!(rt; flags.act(&mut pass, &[0, 0], Doing::Set(7)) == Some((0, 1)));
     for right in 1..64u32 {
-        let read = act_compact(&rt, &store, &mut pass, &[0, right], Doing::Read);
+        let read = flags.act(&mut pass, &[0, right], Doing::Read);
         assert!(rt; read == Some((u64::from(right), 0)));
-        let first = act_compact(&rt, &store, &mut pass, &[0, 0], Doing::Read);
+        let first = flags.act(&mut pass, &[0, 0], Doing::Read);
         assert!(rt; first == Some((0, 128)));
     }
+    Ok(())
+}
+
+// A caller's pass, how often it was the first to set a flag and to clear one, and whether it read a flag that
+// nobody sets.
+struct Caller<T> {
+    pass: PassOf<T>,
+    set: u64,
+    cleared: u64,
+    wrong: bool,
+}
+
+impl<T> Drop for Caller<T> {
+    fn drop(self) {
+        let Self {
+            pass: _,
+            set: _,
+            cleared: _,
+            wrong: _,
+        } = self;
+    }
+}
+
+// Vectors, and which of their flags are set and cleared: 8, 4 and none.
+static TURNED: [([u32; 2], u64); 3] = [([0, 1], 255), ([0, 2], 85), ([0, 3], 0)];
+
+// Sets these flags of a vector, or clears them, and reads all after each.
+fn turn_flags<D: Flagged>(
+    store: &D,
+    caller: &mut Caller<D::View>,
+    vector: &[u32],
+    mask: u64,
+    set: bool,
+)
+    requires flags { (D.store store.now).about.flags ≡ 8 }
+    requires rest { AtRest D.part (D.store store.now) caller.old.pass }
+    ensures { AtRest D.part (D.store store.now) caller.new.pass }
+{
+    for b in 0..8u32 {
+        if mask >> b & 1 == 1 {
+            let doing = if set { Doing::Set(b) } else { Doing::Clear(b) };
+            let first = match store.act(&mut caller.pass, vector, doing) {
+                Some((_, changed)) => changed,
+                None => 0,
+            };
+            if set {
+                caller.set = caller.set.saturating_add(first);
+            } else {
+                caller.cleared = caller.cleared.saturating_add(first);
+            }
+        }
+        match store.act(&mut caller.pass, vector, Doing::Read) {
+            Some((_, read)) => caller.wrong |= read & !mask != 0,
+            None => caller.wrong = true,
+        }
+    }
+}
+
+// The same with all three vectors.
+fn turn_vectors<D: Flagged>(store: &D, caller: &mut Caller<D::View>, set: bool)
+    requires flags { (D.store store.now).about.flags ≡ 8 }
+    requires rest { AtRest D.part (D.store store.now) caller.old.pass }
+    ensures { AtRest D.part (D.store store.now) caller.new.pass }
+{
+    for (vector, mask) in &TURNED {
+        turn_flags(store, caller, vector, *mask, set);
+    }
+}
+
+// All callers do so, each in a thread of its own.
+fn turn_at_once<H: Threads + Sync, D: Flagged>(
+    rt: &H,
+    store: &D,
+    callers: &mut [Caller<D::View>],
+    set: bool,
+)
+    requires flags { (D.store store.now).about.flags ≡ 8 }
+    requires callers { All (λ c. AtRest D.part (D.store store.now) c.pass) callers.old }
+    ensures { All (λ c. AtRest D.part (D.store store.now) c.pass) callers.new }
+{
+    let count = callers.len();
+    if count > 0 {
+        thread::for_each_mut(
+            rt,
+            callers,
+            count,
+            &|_, caller: &mut Caller<D::View>|
+                requires flags { (D.store store.now).about.flags ≡ 8 }
+                requires rest { AtRest D.part (D.store store.now) caller.now.pass }
+                ensures { AtRest D.part (D.store store.entry.now) caller.exit.now.pass }
+            {
+                turn_vectors(store, caller, set);
+            },
+        );
+    }
+}
+
+// Eight callers, each with a pass of its own.
+fn split_callers<R: RootPart<16, 8>>(
+    alloc: Global,
+    store: &TreeStore<R, 16, 8>,
+    pass: &mut Pass<R, 16, 8>,
+) -> Result<Vec<Caller<R::View>>, NoMemory>
+    requires { AtRest R.part store.now pass.old }
+    ensures callers { IfOk result (λ v. All (λ c. AtRest R.part store.now c.pass) v.items) }
+{
+    let mut callers = Vec::new(alloc);
+    for _ in 0..8u64 {
+        let pass = store.split(alloc, pass)?;
+        callers.push(Caller {
+            pass,
+            set: 0,
+            cleared: 0,
+            wrong: false,
+        })?;
+    }
+    Ok(callers)
+}
+
+// How often a caller was the first to set a flag, and to clear one, if none read a flag that nobody sets.
+fn turned_by<T>(callers: &[Caller<T>]) -> Option<(u64, u64)> {
+    let mut set = 0u64;
+    let mut cleared = 0u64;
+    for caller in callers {
+        if caller.wrong {
+            return None;
+        }
+        set = set.saturating_add(caller.set);
+        cleared = cleared.saturating_add(caller.cleared);
+    }
+    Some((set, cleared))
+}
+
+// The callers set twelve flags at once, and then clear them at once, and so on: each time one of them is the
+// first for each flag.
+fn take_turns<H: Threads + Abort + Sync, D: Flagged>(
+    rt: &H,
+    store: &D,
+    callers: &mut [Caller<D::View>],
+)
+    requires flags { (D.store store.now).about.flags ≡ 8 }
+    requires callers { All (λ c. AtRest D.part (D.store store.now) c.pass) callers.old }
+{
+    for round in 0..20u64 {
+        turn_at_once(rt, store, callers, true);
+        assert!(rt; turned_by(callers) == Some((12 * round + 12, 12 * round)));
+        turn_at_once(rt, store, callers, false);
+        assert!(rt; turned_by(callers) == Some((12 * round + 12, 12 * round + 12)));
+    }
+}
+
+#[test]
+fn one_of_eight_threads_is_first(rt: HostRuntime) -> Result<(), Fail> {
+    let (plain, mut pass) = store::<16, 8>(&rt, rt.alloc(), 2, 3);
+    let mut callers = split_callers(rt.alloc(), &plain, &mut pass)?;
+    let flags = PlainFlags {
+        rt: &rt,
+        store: &plain,
+    };
+    take_turns(&rt, &flags, callers.as_mut_slice());
+    Ok(())
+}
+
+#[test]
+fn one_of_eight_threads_is_first_in_regions(rt: HostRuntime) -> Result<(), Fail> {
+    let (compact, mut pass) = compact::store::<16, 8>(&rt, rt.alloc(), 2, 3, 6);
+    let mut callers = split_callers(rt.alloc(), &compact, &mut pass)?;
+    let flags = CompactFlags {
+        rt: &rt,
+        store: &compact,
+    };
+    take_turns(&rt, &flags, callers.as_mut_slice());
     Ok(())
 }

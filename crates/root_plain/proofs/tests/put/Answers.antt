@@ -1,6 +1,7 @@
 use Rattle.std.proofs.Common.{◌≡◌, ◌<◌, ◌^◌, ℕ, refl, rules, subst, sym}
 use Rattle.pair_rule.specs.Rest.{view}
-use Rattle.root_plain.proofs.PassLaws.{call_named}
+use Rattle.pair_nodes.proofs.PassLaws.{call_named}
+use Rattle.root_plain.specs.Plain.{plain}
 use Rattle.root_plain.proofs.TwoSlots.{two_slots}
 use Rattle.root_plain.proofs.tests.put.Goals as goal
 
@@ -20,4 +21,4 @@ returns-in-Ok-clause-named g c =
     let right = wide c.requires.width c.args.right c.requires.parts.1 in
     let some = two_slots about about.width c.args.left c.args.right (view c.args.pass.now).known refl c.requires.slots right in
     let k = c.in-Ok.ensures.put.entry some.0 some.1 some.2 in
-    (some.0, call_named _ _ some.0 c.in-Ok.found.0 (view c.args.pass.now) (view c.put_root.new.pass) k)
+    (some.0, call_named plain _ _ some.0 c.in-Ok.found.0 (view c.args.pass.now) (view c.put_root.new.pass) k)

@@ -5,6 +5,6 @@ use Rattle.tree_store.proofs.tests.flags.flags_of_a_plain_store.Given as goal
 
 abbrev pub invariant-loop-doing : goal.invariant-loop-doing
 invariant-loop-doing g l = record {
-  flags : l.store.about.flags ≡ 7;
-  rest : AtRest plain l.store l.pass;
+  flags : l.flags.store.now.about.flags ≡ 8;
+  rest : AtRest plain l.flags.store.now l.pass;
 }

@@ -5,6 +5,6 @@ use Rattle.tree_store.proofs.tests.flags.flags_stay_while_a_region_fills.Given a
 
 abbrev pub invariant-loop-right : goal.invariant-loop-right
 invariant-loop-right g l = record {
-  flags : l.store.about.flags ≡ 8;
-  rest : AtRest (compact 16 8) l.store l.pass;
+  flags : l.flags.store.now.about.flags ≡ 8;
+  rest : AtRest (compact 16 8) l.flags.store.now l.pass;
 }
