@@ -14,36 +14,52 @@ use clap::ArgMatches;
 /// What is to be done and reported.
 #[derive(Clone, Copy)]
 pub struct TaskWords {
+    /// The job.
     pub job: Job,
+    /// The kind of the root table.
     pub mode: Mode,
+    /// The bits of a slot: 16, 28 or 31.
     pub profile: u32,
+    /// Whether statistics are reported.
     pub stats: bool,
 }
 
 /// How the lines are shared out, and how they are marked.
 #[derive(Clone, Copy)]
 pub struct WorkerWords {
+    /// How many workers: 1 to 64.
     pub workers: u64,
+    /// The lines of a block: 1 to 65536.
     pub block: u64,
+    /// Whether workers draw their blocks.
     pub claims: bool,
+    /// The number of the flag that `mark` sets.
     pub flag: u32,
 }
 
 /// The tables, and how far a path goes in them.
 #[derive(Clone, Copy)]
 pub struct TableWords {
+    /// The exponent of the node table, if it is given.
     pub nodes: Option<u32>,
+    /// The exponent of the root table, if it is given.
     pub roots: Option<u32>,
+    /// The exponent of a region, if it is given.
     pub region: Option<u32>,
+    /// How many lines of buckets a path walks at most.
     pub probe: u64,
 }
 
 /// The trace that `bench` generates.
 #[derive(Clone, Copy)]
 pub struct BenchWords {
+    /// How many lines.
     pub lines: u64,
+    /// The slots of a line.
     pub slots: usize,
+    /// The number that each slot is below.
     pub values: u64,
+    /// The seed.
     pub seed: u64,
 }
 

@@ -9,9 +9,13 @@ use tdb_base::NoMemory;
 
 /// A caller, the numbers that are its share, and how many of its calls found no place or no name.
 pub struct Caller<T> {
+    /// Its pass.
     pub pass: PassOf<T>,
+    /// The first number of its share.
     pub from: u64,
+    /// The number behind its share.
     pub to: u64,
+    /// How many of its calls found no place or no name.
     pub missed: u64,
 }
 

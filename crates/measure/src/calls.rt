@@ -46,6 +46,7 @@ pub trait RootCalls: Sync {
 /// Those of plain roots, which no call looks for without putting them.
 #[derive(Drop)]
 pub struct PlainCalls<'a> {
+    /// The store.
     pub nodes: &'a Nodes<PlainRoot<28, 7>, 28, 7>,
 }
 
@@ -73,7 +74,9 @@ impl<'a> RootCalls for PlainCalls<'a> {
 /// Those of compact roots. By `H` a call may wait for the lock of a region.
 #[derive(Drop)]
 pub struct CompactCalls<'a, H> {
+    /// By this a call may wait.
     pub rt: &'a H,
+    /// The store.
     pub nodes: &'a Nodes<CompactRoot<28, 7>, 28, 7>,
 }
 

@@ -20,7 +20,9 @@ use work_run::{run_drawn, run_lines};
 // How the lines are shared out, and among how many workers.
 #[derive(Clone, Copy)]
 pub struct Sharing {
+    /// How many workers: 1 to 64.
     pub workers: u64,
+    /// The lines of a block: 1 to 65536.
     pub block: u64,
 }
 

@@ -22,11 +22,17 @@ use tdb_base::NoMemory;
 /// then put again and looked for, and by how many threads. Each thread has its share of the roots.
 #[derive(Clone, Copy)]
 pub struct Asked {
+    /// The exponent of the table: 6 to 18.
     pub roots: u32,
+    /// The exponent of a region: 6 to 12, at most that of the table.
     pub region: u32,
+    /// To how many percent it is filled.
     pub fill: u64,
+    /// How often all roots are put again.
     pub puts: u64,
+    /// How often all are looked for.
     pub looks: u64,
+    /// By how many threads: 1 to 64.
     pub threads: u64,
 }
 

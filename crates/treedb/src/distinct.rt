@@ -24,8 +24,11 @@ use tree_store::{TreeStore, read_vector};
 /// written.
 #[derive(Drop)]
 pub struct ReadBack {
+    /// The slots of a vector.
     pub slots: usize,
+    /// The slots of all vectors, one vector after the other.
     pub flat: Vec<u32>,
+    /// The numbers of the vectors, in the order in which they are written.
     pub order: Vec<u32>,
 }
 

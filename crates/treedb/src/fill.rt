@@ -31,8 +31,11 @@ use tree_store::{CompactPass, CompactStore, PlainPass, PlainStore, TreeStore};
 /// that were answered new, if the job prints them.
 #[derive(Drop)]
 pub struct Answered {
+    /// The reply to each line, and what is told beside it.
     pub inserted: Inserted,
+    /// The counts of the store, if they are asked for.
     pub stats: Option<Stats>,
+    /// The vectors that were answered new, if the job prints them.
     pub vectors: Option<ReadBack>,
 }
 

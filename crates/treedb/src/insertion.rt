@@ -39,6 +39,7 @@ pub enum Way {
 /// What is told of each line beside its reply.
 #[derive(Drop)]
 pub enum Beside {
+    /// No more than the reply.
     Nothing,
     /// The worker that drew it.
     Drawers(Vec<u32>),
@@ -49,7 +50,9 @@ pub enum Beside {
 /// The reply to each line, and what is told beside it.
 #[derive(Drop)]
 pub struct Inserted {
+    /// The reply to each line.
     pub replies: Vec<Reply>,
+    /// What is told of each line beside its reply.
     pub beside: Beside,
 }
 

@@ -12,6 +12,7 @@ use pair_rule::PassOf;
 pub struct Worker<T, S, A> {
     /// Its number among the workers, from 0.
     pub number: u64,
+    /// Its pass.
     pub pass: PassOf<T>,
     /// What it has its lines from.
     pub lines: S,
