@@ -32,7 +32,7 @@ use Rattle.treedb.specs.Sharing.{AgreesTreated, line_entries, owner_of, treated}
 use Rattle.treedb.specs.ReadBack.{IsReadBack, IsReadBy, new_id, new_ids}
 use Rattle.treedb.specs.Stored.{Counts, AreTold, NodesAreNamed, InStore}
 use Rattle.treedb.specs.declared.distinct.ReadBack.{ReadBack}
-use Rattle.treedb.specs.declared.insertion.Inserted.{Inserted}
+use Rattle.treedb.specs.declared.insertion.LineReplies.{LineReplies}
 use Rattle.treedb.proofs.Insertions.{Inserts, agrees-from-zero, insertions}
 use Rattle.treedb.proofs.NewLemmas.{named-line, new-named, read-back, read-renamed}
 use Rattle.treedb.proofs.SharingLemmas.{shared-out}
@@ -75,7 +75,7 @@ named_by (r.Seen id) e = (id, refl)
 named_by r.FullNodes e = cc e
 named_by r.FullRoots e = cc e
 
-module _ {T : Type 0} (part : Part T) (c : Choice) (trace : List Vector) (made : Inserted) (store : Store) (last : PassOf T)
+module _ {T : Type 0} (part : Part T) (c : Choice) (trace : List Vector) (made : LineReplies) (store : Store) (last : PassOf T)
     (some : 0 < c.workers) (inserted : AreInserted part c trace made store last) (rests : AtRest part store last) where
   abbrev replies : List Reply
   replies = made.replies.items

@@ -27,7 +27,7 @@ use Rattle.treedb.specs.Run.{IsOfMode}
 use Rattle.treedb.specs.Sharing.{IsTreated, line_entries, owner_of, treated}
 use Rattle.treedb.specs.Stored.{IsAboutChoice, InStore}
 use Rattle.treedb.specs.declared.distinct.ReadBack.{ReadBack}
-use Rattle.treedb.specs.declared.insertion.Inserted.{Inserted}
+use Rattle.treedb.specs.declared.insertion.LineReplies.{LineReplies}
 
 -- the sizes of a store are those of a choice, for so many lines of so many slots
 pub record AreSizesOf (c : Choice) (slots lines : ℕ) (store : Sizes) : Type 0 where
@@ -68,7 +68,7 @@ pub record AwaitsTrace {T : Type 0} (part : Part T) (c : Choice) (trace : List V
 
 -- the workers inserted the lines of a trace, which are treated as the choice says, with these replies
 pub record HasInserted {T : Type 0} (part : Part T) (c : Choice) (about : About) (trace : List Vector)
-    (old new : PassOf T) (made : Inserted) : Type 0 where
+    (old new : PassOf T) (made : LineReplies) : Type 0 where
   pub shared : IsTreated c (length trace) made.replies.items (treated made)
   pub ran : HasRunOver (owned (length trace) (owner_of c (treated made)))
       (line_entries c (treated made) trace made.replies.items)
@@ -76,7 +76,7 @@ pub record HasInserted {T : Type 0} (part : Part T) (c : Choice) (about : About)
 
 -- these are the replies to the lines of a trace, which were inserted into a new store of a choice, and this
 -- is its pass then
-pub record AreInserted {T : Type 0} (part : Part T) (c : Choice) (trace : List Vector) (made : Inserted)
+pub record AreInserted {T : Type 0} (part : Part T) (c : Choice) (trace : List Vector) (made : LineReplies)
     (store : Store) (last : PassOf T) : Type 0 where
   pub about_is : IsAboutChoice part c trace store.about
   pub first : PassOf T

@@ -19,7 +19,8 @@ use Rattle.trace_csv.specs.Output.{TakesFront}
 use Rattle.treedb.specs.Note.{has_note, note_text, status_of}
 use Rattle.treedb.specs.Reading.{EndsReading}
 use Rattle.treedb.specs.Room.{HasAutomaticSizes, HasRoomFor, IsTraceWithin}
-use Rattle.treedb.specs.Run.{GivesWithin, Headline, OfPrinted, Prints, PrintsFront, is_printed, reads_to_end, is_of_input}
+use Rattle.treedb.specs.Run.{GivesWithin, Headline, OfPrinted, Prints, PrintsFront}
+use Rattle.treedb.specs.Run.{is_of_input, is_printed, reads_to_end}
 use Rattle.treedb.specs.declared.ended.Ended.{Ended}
 use Rattle.treedb.specs.declared.ended.Ended.TheVariants as e
 

@@ -1,4 +1,5 @@
--- How the lines of a run are treated: whose each is, what calls are made for it, and the report that tells it.
+-- How the lines of a run are treated: whose each is, what calls are made for it, and the report that tells
+-- it.
 use Rattle.std.specs.Prelude.{◌≡◌, ℕ, Bool, List, [], length, slice_index, if◌then◌else◌, ⊤}
 use Rattle.tdb_base.specs.Agrees.{AgreesOver, entries_of_insertion}
 use Rattle.tdb_base.specs.History.{Vector, History}
@@ -16,7 +17,7 @@ use Rattle.treedb.specs.declared.insertion.Way.{Way}
 use Rattle.treedb.specs.declared.insertion.Way.TheVariants.{Deal, Draw, Mark}
 use Rattle.treedb.specs.declared.insertion.Beside.{Beside}
 use Rattle.treedb.specs.declared.insertion.Beside.TheVariants as b
-use Rattle.treedb.specs.declared.insertion.Inserted.{Inserted}
+use Rattle.treedb.specs.declared.insertion.LineReplies.{LineReplies}
 
 -- what a job does with lines: blocks may be drawn for two of them
 abbrev pub way_for : Job → Bool → Way
@@ -41,7 +42,7 @@ treated_with b.Nothing = Dealt
 treated_with (b.Drawers drawn) = Drawn drawn.items
 treated_with (b.Marks firsts) = Marked firsts.items
 
-abbrev pub treated : Inserted → Treated
+abbrev pub treated : LineReplies → Treated
 treated made = treated_with made.beside
 
 -- whose each line is: as a list of workers tells, or, without one, as blocks are dealt out

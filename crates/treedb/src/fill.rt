@@ -12,7 +12,7 @@ ghost use Rattle.treedb.specs.Filling.{AreInserted, AwaitsTrace, IsPartFor};
 ghost use Rattle.treedb.specs.ReadBack.{AwaitsLines, IfPrinted};
 
 use crate::distinct::{ReadBack, read_back};
-use crate::insertion::{Inserted, insert_plainly, insert_waiting};
+use crate::insertion::{LineReplies, insert_plainly, insert_waiting};
 use crate::stats::stats_of;
 use crate::store::make_ready;
 use command_line::{Choice, Mode};
@@ -32,7 +32,7 @@ use tree_store::{CompactPass, CompactStore, PlainPass, PlainStore, TreeStore};
 #[derive(Drop)]
 pub struct Answered {
     /// The reply to each line, and what is told beside it.
-    pub inserted: Inserted,
+    pub inserted: LineReplies,
     /// The counts of the store, if they are asked for.
     pub stats: Option<Stats>,
     /// The vectors that were answered new, if the job prints them.
@@ -46,7 +46,7 @@ fn complete_replies<N: RootNames<W, F>, const W: u32, const F: u32>(
     pass: &mut Pass<N::Part, W, F>,
     choice: &Choice,
     trace: &Trace,
-    inserted: Inserted,
+    inserted: LineReplies,
     room: Option<ReadBack>,
 ) -> Answered
     requires valid { IsValid choice.now }

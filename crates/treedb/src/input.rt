@@ -1,5 +1,6 @@
 //! The input of a run: its bytes, and the lines that they write, or that are drawn.
-ghost use Rattle.std.specs.Prelude.{◌≡◌, ◌≢◌, ◌≤◌, ◌<◌, ◌^◌, ◌⊎◌, ℕ, List, false, true, All, IfOk, IfErr, IfSome, OnOk};
+ghost use Rattle.std.specs.Prelude.{◌≡◌, ◌≢◌, ◌≤◌, ◌<◌, ◌^◌, ◌⊎◌, ℕ, List, false, true};
+ghost use Rattle.std.specs.Prelude.{All, IfOk, IfErr, IfSome, OnOk};
 ghost use Rattle.std.specs.Prelude.{Ok, Err, Some, length, vec_len};
 ghost use Rattle.std.specs.Io.KnownBytes.{IsAtEnd};
 ghost use Rattle.tdb_base.specs.Causes.{Rose};

@@ -49,7 +49,7 @@ pub enum Beside {
 
 /// The reply to each line, and what is told beside it.
 #[derive(Drop)]
-pub struct Inserted {
+pub struct LineReplies {
     /// The reply to each line.
     pub replies: Vec<Reply>,
     /// What is told of each line beside its reply.
@@ -76,7 +76,7 @@ pub fn insert_plainly<R: Threads + Sync, G: Gate, const W: u32, const F: u32>(
     choice: &Choice,
     trace: &Trace,
     gate: &G,
-) -> Result<Inserted, NoMemory>
+) -> Result<LineReplies, NoMemory>
     requires valid { IsValid choice.now }
     requires flags { store.now.about.flags ≡ flag_count choice.now.profile }
     requires rest { AtRest plain store.now pass.old }
@@ -95,12 +95,12 @@ pub fn insert_plainly<R: Threads + Sync, G: Gate, const W: u32, const F: u32>(
         Way::Deal => {
             let replies = run_lines(rt, alloc, store, pass, trace, workers, block, gate)?;
             let beside = Beside::Nothing;
-            Ok(Inserted { replies, beside })
+            Ok(LineReplies { replies, beside })
         }
         Way::Draw => {
             let (replies, drawn) = run_drawn(rt, alloc, store, pass, trace, workers, block, gate)?;
             let beside = Beside::Drawers(drawn);
-            Ok(Inserted { replies, beside })
+            Ok(LineReplies { replies, beside })
         }
         Way::Mark => {
             let flag = choice.flag;
@@ -108,7 +108,7 @@ pub fn insert_plainly<R: Threads + Sync, G: Gate, const W: u32, const F: u32>(
                 rt, alloc, store, pass, trace, workers, block, flag, gate,
             )?;
             let beside = Beside::Marks(firsts);
-            Ok(Inserted { replies, beside })
+            Ok(LineReplies { replies, beside })
         }
     }
 }
@@ -122,7 +122,7 @@ pub fn insert_waiting<R: Threads + Wait + Sync, G: Gate, const W: u32, const F: 
     choice: &Choice,
     trace: &Trace,
     gate: &G,
-) -> Result<Inserted, NoMemory>
+) -> Result<LineReplies, NoMemory>
     requires valid { IsValid choice.now }
     requires flags { store.now.about.flags ≡ flag_count choice.now.profile }
     requires rest { AtRest (compact W F) store.now pass.old }
@@ -141,14 +141,14 @@ pub fn insert_waiting<R: Threads + Wait + Sync, G: Gate, const W: u32, const F: 
         Way::Deal => {
             let replies = run_lines_waiting(rt, alloc, store, pass, trace, workers, block, gate)?;
             let beside = Beside::Nothing;
-            Ok(Inserted { replies, beside })
+            Ok(LineReplies { replies, beside })
         }
         Way::Draw => {
             let (replies, drawn) = run_drawn_waiting(
                 rt, alloc, store, pass, trace, workers, block, gate,
             )?;
             let beside = Beside::Drawers(drawn);
-            Ok(Inserted { replies, beside })
+            Ok(LineReplies { replies, beside })
         }
         Way::Mark => {
             let flag = choice.flag;
@@ -156,7 +156,7 @@ pub fn insert_waiting<R: Threads + Wait + Sync, G: Gate, const W: u32, const F: 
                 rt, alloc, store, pass, trace, workers, block, flag, gate,
             )?;
             let beside = Beside::Marks(firsts);
-            Ok(Inserted { replies, beside })
+            Ok(LineReplies { replies, beside })
         }
     }
 }

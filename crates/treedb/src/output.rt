@@ -16,7 +16,7 @@ ghost use Rattle.treedb.specs.Writing.{WritesAnswered, WritesText, ended_with};
 use crate::distinct::ReadBack;
 use crate::ended::Ended;
 use crate::fill::Answered;
-use crate::insertion::{Beside, Inserted};
+use crate::insertion::{Beside, LineReplies};
 use crate::stats::summary;
 use command_line::{Choice, Job};
 use tdb_base::{Reply, Sink};
@@ -38,7 +38,7 @@ fn ended(replies: &[Reply]) -> Ended
 
 // Writes the report of all replies, with who drew each line or how it was marked, where that is told.
 fn write_lines<K: Sink>(
-    inserted: &Inserted,
+    inserted: &LineReplies,
     summary: &Summary,
     sink: &mut K,
 ) -> Result<(), WriteFault>
@@ -63,7 +63,7 @@ fn write_lines<K: Sink>(
 // Writes this report. The sink is finished then.
 //
 // `WriteFault` comes only where the sink's count of faults rose, and leaves a front of the text.
-fn write_replies<K: Sink>(inserted: &Inserted, stats: Option<Stats>, sink: &mut K) -> Ended
+fn write_replies<K: Sink>(inserted: &LineReplies, stats: Option<Stats>, sink: &mut K) -> Ended
     requires beside { HasOneEach (treated inserted.now) inserted.now.replies.items }
     ensures written { WritesText (report_of (treated inserted.now) inserted.now.replies.items
         (summary_of inserted.now.replies.items stats)) inserted.now.replies.items

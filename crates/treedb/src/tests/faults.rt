@@ -48,8 +48,8 @@ fn refuses_what_is_no_trace(rt: HostRuntime) -> Result<(), Fail> {
     Ok(())
 }
 
-// A source of twelve bytes that gives one a call is read thirteen times: each read that fails ends the run, and
-// there is no fourteenth.
+// A source of twelve bytes that gives one a call is read thirteen times: each read that fails ends the run,
+// and there is no fourteenth.
 #[test]
 fn tells_of_each_failing_read(rt: HostRuntime) -> Result<(), Fail> {
     let alloc = rt.alloc();
@@ -76,8 +76,8 @@ fn tells_of_each_failing_read(rt: HostRuntime) -> Result<(), Fail> {
     Ok(())
 }
 
-// A report of 35 bytes to a sink that takes one a call is written by 35 writes: each that fails ends the run, and
-// isn't tried again.
+// A report of 35 bytes to a sink that takes one a call is written by 35 writes: each that fails ends the run,
+// and isn't tried again.
 #[test]
 fn tells_of_each_failing_write(rt: HostRuntime) -> Result<(), Fail> {
     let alloc = rt.alloc();
