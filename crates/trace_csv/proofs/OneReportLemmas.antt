@@ -1,15 +1,17 @@
 -- A report is read in one way: a number ends where its digits do, and a line tells its reply.
 use Rattle.std.proofs.Common.{◌≡◌, ◌≤◌, ◌<◌, ◌+◌, ◌^◌, ◌∙◌, ℕ, zero, suc, List, [], ◌∷◌, ◌++◌, length, get_or, take, drop, true, false, codes, decimal, refl, sym, ap, subst, arith, append_assoc, length-append}
 use Rattle.std.proofs.lemmas.List.{append_cancel_left, get_or_append_left, get_or_at, take_at}
+use Rattle.std.proofs.lemmas.Option.{get_or_from_slice_get, slice_get-get_or}
 use Rattle.std.proofs.lemmas.List.Elements.{All-get_or, All-head, All-tail}
 use Rattle.std.proofs.lemmas.List.Sums.{prefix_len_is}
 use Rattle.std.specs.Char.{is_ascii_digit}
 use Rattle.std.specs.List.{prefix_len}
-use Rattle.std.specs.Prelude.{◌==◌, All, slice_index, ⊤}
+use Rattle.std.specs.Prelude.{◌==◌, All, Bool, slice_index, slice_index_or, ⊤}
+use Rattle.tdb_base.specs.Replies.{is_full}
 use Rattle.tdb_base.specs.declared.reply.Reply.{Reply}
 use Rattle.tdb_base.specs.declared.reply.Reply.TheVariants as r
-use Rattle.trace_csv.specs.OneReport.{HasWordId, OneDrawnReport, OneReport}
-use Rattle.trace_csv.specs.Report.{Extras, answer, answer_ending, drawers, line_ending, lines_with, named_line, no_extras, reply_line, summary_with}
+use Rattle.trace_csv.specs.OneReport.{AreMarks, HasWordId, OneDrawnReport, OneMarkedReport, OneReport}
+use Rattle.trace_csv.specs.Report.{Extras, answer, answer_ending, drawers, line_ending, lines_with, mark_ending, marked_count, marks, named_line, no_extras, reply_line, summary_with}
 use Rattle.trace_csv.specs.declared.report.Summary.{Summary}
 use Rattle.trace_csv.proofs.DecimalLemmas.{decimal-digit, decimal-own, decimal-some}
 
@@ -118,21 +120,25 @@ summary-other end n p x counts s e =
     let text = append_assoc (decimal n ++ codes ",") answered x ∙ append_assoc (decimal n) (codes ",") (answered ++ x) in
     not-digit-first n 108 (codes "," ++ (answered ++ x)) (drop 1 (summary_with counts s)) refl (sym text ∙ e)
 
--- the ends of lines with one number tell something of it, and where they end
-abbrev TellsAt : (one other : Extras) → (ℕ → Type 0) → ℕ → Type 0
+-- the ends of lines with one number and one reply tell something of these, and where they end
+abbrev TellsAt : (one other : Extras) → (ℕ → Reply → Type 0) → ℕ → Type 0
 TellsAt one other Tells i = (p : Reply) (x y : List ℕ)
-    → (one.ends i p ++ codes "\n") ++ x ≡ (other.ends i p ++ codes "\n") ++ y → Tells i × (x ≡ y)
+    → (one.ends i p ++ codes "\n") ++ x ≡ (other.ends i p ++ codes "\n") ++ y → Tells i p × (x ≡ y)
 
--- what is told of a number and of those behind it
-told-from : (Tells : ℕ → Type 0) (n count : ℕ) → Tells n → ((k : ℕ) → k < count → Tells ((n + 1) + k)) → (k : ℕ) → k < suc count → Tells (n + k)
-told-from Tells n count first rest zero lt = subst Tells (let e : n ≡ n + 0 = omega arith in e) first
-told-from Tells n count first rest (suc k) lt = subst Tells (let e : (n + 1) + k ≡ n + suc k = omega arith in e) (rest k (omega arith))
+-- what is told of the replies to lines that are numbered from n on
+abbrev ToldFrom : (ℕ → Reply → Type 0) → ℕ → List Reply → Type 0
+ToldFrom Tells n xs = (k : ℕ) → k < length xs → Tells (n + k) (get_or xs k r.FullNodes)
+
+-- what is told of a reply and of those behind it
+told-from : (Tells : ℕ → Reply → Type 0) (n : ℕ) (p : Reply) (xs : List Reply) → Tells n p → ToldFrom Tells (n + 1) xs → ToldFrom Tells n (p ∷ xs)
+told-from Tells n p xs first rest zero lt = subst (λ (m : ℕ). Tells m p) (let e : n ≡ n + 0 = omega arith in e) first
+told-from Tells n p xs first rest (suc k) lt = subst (λ (m : ℕ). Tells m (get_or xs k r.FullNodes)) (let e : (n + 1) + k ≡ n + suc k = omega arith in e) (rest k (omega arith))
 
 -- reports with these ends have the same replies, and lines with one number tell what their ends do
-lines-same : (one other : Extras) (Tells : ℕ → Type 0) (s t : Summary) (n : ℕ) (xs ys : List Reply) → All HasWordId xs
+lines-same : (one other : Extras) (Tells : ℕ → Reply → Type 0) (s t : Summary) (n : ℕ) (xs ys : List Reply) → All HasWordId xs
     → ((k : ℕ) → k < length xs → TellsAt one other Tells (n + k))
     → lines_with one n xs ++ summary_with one.counts s ≡ lines_with other n ys ++ summary_with other.counts t
-    → (xs ≡ ys) × ((k : ℕ) → k < length xs → Tells (n + k))
+    → (xs ≡ ys) × ToldFrom Tells n xs
 unfolding lines_with
 lines-same one other Tells s t n [] [] all tell e = (refl, λ k lt. absurd (omega (arith, lt)))
 lines-same one other Tells s t n [] (q ∷ ys) all tell e =
@@ -152,12 +158,12 @@ lines-same one other Tells s t n (p ∷ xs) (q ∷ ys) all tell e =
     let rest = lines-same one other Tells s t (n + 1) xs ys (All-tail HasWordId p xs all)
     (λ k lt. subst (TellsAt one other Tells) (let z : n + suc k ≡ (n + 1) + k = omega arith in z) (tell (suc k) (omega arith))) told.1 in (
       ap (λ (z : Reply). z ∷ xs) both.0 ∙ ap (λ (zs : List Reply). q ∷ zs) rest.0,
-      told-from Tells n (length xs) told.0 rest.1,
+      told-from Tells n p xs told.0 rest.1,
     )
 
 pub one-report : OneReport
 one-report replies others summary other all e =
-    (lines-same no_extras no_extras (λ k. ⊤) summary other 0 replies others all (λ k lt p x y f. (tt, tail-same 10 10 x y f)) e).0
+    (lines-same no_extras no_extras (λ k p. ⊤) summary other 0 replies others all (λ k lt p x y f. (tt, tail-same 10 10 x y f)) e).0
 
 -- lists of one length with the same numbers at all places are the same
 same-numbers : (xs ys : List ℕ) → length xs ≡ length ys → ((k : ℕ) → k < length xs → slice_index xs k ≡ slice_index ys k) → xs ≡ ys
@@ -171,11 +177,59 @@ same-numbers (x ∷ xs) (y ∷ ys) long same =
 
 pub one-drawn-report : OneDrawnReport
 one-drawn-report replies others drawn workers summary other all fit long same e =
-    let Tells : ℕ → Type 0 = λ k. slice_index drawn k ≡ slice_index workers k in
+    let Tells : ℕ → Reply → Type 0 = λ k p. slice_index drawn k ≡ slice_index workers k in
     let both = lines-same (drawers drawn) (drawers workers) Tells summary other 0 replies others all
     (λ k lt p x y f. number-cancel (slice_index drawn (0 + k)) (slice_index workers (0 + k)) 10 x y (All-get_or (λ (j : ℕ). j < 2 ^ 64) drawn (0 + k) 0 (omega arith) fit) refl
     (sym (number-text (slice_index drawn (0 + k)) 10 [] x) ∙ tail-same 44 44 _ _ f ∙ number-text (slice_index workers (0 + k)) 10 [] y)) e in
     let count = ap (λ (z : List Reply). length z) both.0 in (
       both.0,
-      same-numbers drawn workers (omega (arith, long, same, count)) (λ k lt. subst Tells (let z : 0 + k ≡ k = omega arith in z) (both.1 k (omega (arith, lt, long)))),
+      same-numbers drawn workers (omega (arith, long, same, count)) (λ k lt. subst (λ (m : ℕ). slice_index drawn m ≡ slice_index workers m) (let z : 0 + k ≡ k = omega arith in z) (both.1 k (omega (arith, lt, long)))),
     )
+
+-- a mark at the end of a line that isn't full tells whether the line was marked first
+mark-ends : (b d : Bool) (p : Reply) (x y : List ℕ) → (mark_ending b p ++ codes "\n") ++ x ≡ (mark_ending d p ++ codes "\n") ++ y
+    → (is_full p ≡ false → b ≡ d) × (x ≡ y)
+mark-ends true true p x y e = (λ f. refl, append_cancel_left (mark_ending true p ++ codes "\n") x y e)
+mark-ends false false p x y e = (λ f. refl, append_cancel_left (mark_ending false p ++ codes "\n") x y e)
+mark-ends true false (r.New id) x y e = absurd (apart (ap (λ (t : List ℕ). get_or t 1 0 == 102) e))
+mark-ends true false (r.Seen id) x y e = absurd (apart (ap (λ (t : List ℕ). get_or t 1 0 == 102) e))
+mark-ends true false r.FullNodes x y e = (λ f. cc f, tail-same 10 10 x y e)
+mark-ends true false r.FullRoots x y e = (λ f. cc f, tail-same 10 10 x y e)
+mark-ends false true (r.New id) x y e = absurd (apart (ap (λ (t : List ℕ). get_or t 1 0 == 102) (sym e)))
+mark-ends false true (r.Seen id) x y e = absurd (apart (ap (λ (t : List ℕ). get_or t 1 0 == 102) (sym e)))
+mark-ends false true r.FullNodes x y e = (λ f. cc f, tail-same 10 10 x y e)
+mark-ends false true r.FullRoots x y e = (λ f. cc f, tail-same 10 10 x y e)
+
+-- lists of one length with the same marks at all places are the same
+same-marks : (xs ys : List Bool) → length xs ≡ length ys → ((k : ℕ) → k < length xs → slice_index_or xs k false ≡ slice_index_or ys k false) → xs ≡ ys
+same-marks [] [] long same = refl
+same-marks [] (y ∷ ys) long same = absurd (omega (arith, long))
+same-marks (x ∷ xs) [] long same = absurd (omega (arith, long))
+same-marks (x ∷ xs) (y ∷ ys) long same =
+    let first : x ≡ y = same 0 (omega arith) in
+    let rest = same-marks xs ys (omega (arith, long)) (λ k lt. same (suc k) (omega arith)) in
+    ap (λ (z : Bool). z ∷ xs) first ∙ ap (λ (zs : List Bool). y ∷ zs) rest
+
+-- a full line has no mark
+no-mark : (replies : List Reply) (firsts : List Bool) (k : ℕ) (d : Reply) → AreMarks replies firsts → k < length replies → is_full (get_or replies k d) ≡ true → slice_index_or firsts k false ≡ false
+no-mark replies firsts k d mine lt full = get_or_from_slice_get firsts k false false (mine.full k (get_or replies k d) (slice_get-get_or replies k d lt) full)
+
+pub one-marked-report : OneMarkedReport
+one-marked-report replies others firsts marked summary other all mine its e =
+    let Tells : ℕ → Reply → Type 0 = λ k p. is_full p ≡ false → slice_index_or firsts k false ≡ slice_index_or marked k false in
+    let both = lines-same (marks firsts (marked_count replies firsts)) (marks marked (marked_count others marked)) Tells summary other 0 replies others all
+    (λ k lt p x y f. mark-ends (slice_index_or firsts (0 + k) false) (slice_index_or marked (0 + k) false) p x y f) e in
+    let same : replies ≡ others = both.0 in
+    let long = ap (λ (z : List Reply). length z) same in
+    let own = mine.one_each in
+    let other-own = its.one_each in
+    let theirs : AreMarks replies marked = subst (λ (z : List Reply). AreMarks z marked) (sym same) its in
+    (same, same-marks firsts marked (omega (arith, long, own, other-own)) (λ k lt. at k (omega (arith, lt, own)) theirs (both.1 k (omega (arith, lt, own)))))
+  where
+    at : (k : ℕ) → k < length replies → AreMarks replies marked → (is_full (get_or replies k r.FullNodes) ≡ false → slice_index_or firsts (0 + k) false ≡ slice_index_or marked (0 + k) false)
+        → slice_index_or firsts k false ≡ slice_index_or marked k false
+    at k lt theirs told = by (is_full (get_or replies k r.FullNodes)) refl
+      where
+        by : (b : Bool) → is_full (get_or replies k r.FullNodes) ≡ b → slice_index_or firsts k false ≡ slice_index_or marked k false
+        by false f = subst (λ (m : ℕ). slice_index_or firsts m false ≡ slice_index_or marked m false) (let z : 0 + k ≡ k = omega arith in z) (told f)
+        by true f = no-mark replies firsts k r.FullNodes mine lt f ∙ sym (no-mark replies marked k r.FullNodes theirs lt f)

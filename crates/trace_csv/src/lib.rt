@@ -22,7 +22,9 @@ mod walk;
 mod whole_text;
 
 pub use input::{InError, read_all};
-pub use one_report::{one_drawn_report_of_replies, one_report_of_replies};
+pub use one_report::{
+    one_drawn_report_of_replies, one_marked_report_of_replies, one_report_of_replies,
+};
 pub use output::WriteFault;
 pub use read::read_trace;
 pub use refusal::TraceError;

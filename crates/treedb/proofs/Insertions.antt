@@ -14,7 +14,8 @@ use Rattle.tdb_base.specs.declared.reply.Reply.{Reply}
 use Rattle.tdb_base.proofs.HeadlineLemmas.{counts-names}
 use Rattle.tdb_base.proofs.RenameLemmas.{agrees_renamed}
 use Rattle.trace_csv.specs.Report.{marked_count}
-use Rattle.work_run.specs.Marks.{AgreesMarked, AreMarks, MarksTell}
+use Rattle.trace_csv.specs.OneReport.{AreMarks}
+use Rattle.work_run.specs.Marks.{AgreesMarked, MarksTell}
 use Rattle.work_run.proofs.MarkLaws.{marks-are-counted, markers-renumbered, puts-agree}
 use Rattle.work_run.proofs.MarkParts.{puts_in}
 use Rattle.command_line.specs.Rules.{flag_count}

@@ -9,7 +9,7 @@ use Rattle.tdb_base.proofs.TallyLemmas.{dealt-shared}
 use Rattle.trace_csv.specs.OneReport.{HasWordId}
 use Rattle.trace_csv.specs.Report.{summary_of}
 use Rattle.trace_csv.specs.declared.report.Stats.{Stats}
-use Rattle.trace_csv.proofs.OneReportLemmas.{one-drawn-report, one-report}
+use Rattle.trace_csv.proofs.OneReportLemmas.{one-drawn-report, one-marked-report, one-report}
 use Rattle.command_line.specs.declared.outcome.Choice.{Choice}
 use Rattle.command_line.specs.declared.outcome.Job.{Job}
 use Rattle.command_line.specs.declared.outcome.Job.TheVariants.{Insert, Mark}
@@ -40,4 +40,6 @@ tells-replies c replies (Drawn drawn) stats few is fit = λ others workers summa
     let small : All (λ j. j < 2 ^ 64) drawn = λ k d lt. let one = is.1.among k d lt in omega (arith, one, few) in
     let both = one-drawn-report replies others drawn workers (summary_of replies stats) summary fit small is.1.one_each long same in
     (sym both.0, sym both.1)
-tells-replies c replies (Marked firsts) stats few is fit = tt
+tells-replies c replies (Marked firsts) stats few is fit = λ others marked summary its same.
+    let both = one-marked-report replies others firsts marked (summary_of replies stats) summary fit is.1 its same in
+    (sym both.0, sym both.1)

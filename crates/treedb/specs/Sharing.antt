@@ -8,7 +8,8 @@ use Rattle.tdb_base.specs.declared.reply.Reply.{Reply}
 use Rattle.trace_csv.specs.Report.{drawn_report, marked_report, report}
 use Rattle.trace_csv.specs.declared.report.Summary.{Summary}
 use Rattle.work_run.specs.Drew.{AreDrawnBy}
-use Rattle.work_run.specs.Marks.{AreMarks, entries_of_mark}
+use Rattle.trace_csv.specs.OneReport.{AreMarks}
+use Rattle.work_run.specs.Marks.{entries_of_mark}
 use Rattle.command_line.specs.Rules.{flag_count}
 use Rattle.command_line.specs.declared.outcome.Job.{Job}
 use Rattle.command_line.specs.declared.outcome.Job.TheVariants as job
@@ -82,14 +83,16 @@ report_of Dealt replies summary = report replies summary
 report_of (Drawn drawn) replies summary = drawn_report replies drawn summary
 report_of (Marked firsts) replies summary = marked_report replies firsts summary
 
--- a text is the report of these replies and workers, and of no others; of a report with marks this isn't told
+-- a text is the report of these replies and workers or marks, and of no others
 abbrev pub TellsReplies : Treated → List Reply → List ℕ → Type 0
 TellsReplies Dealt replies text = (others : List Reply) (summary : Summary)
     → text ≡ report others summary → others ≡ replies
 TellsReplies (Drawn drawn) replies text = (others : List Reply) (workers : List ℕ) (summary : Summary)
     → length workers ≡ length others → text ≡ drawn_report others workers summary
     → (others ≡ replies) × (workers ≡ drawn)
-TellsReplies (Marked firsts) replies text = ⊤
+TellsReplies (Marked firsts) replies text = (others : List Reply) (marks : List Bool) (summary : Summary)
+    → AreMarks others marks → text ≡ marked_report others marks summary
+    → (others ≡ replies) × (marks ≡ firsts)
 
 -- this is told of the marks of lines that were marked
 abbrev pub IfMarked : Treated → (List Bool → Type 0) → Type 0

@@ -1,16 +1,17 @@
 -- When the replies and the marks of a trace's lines form one history, and what a run of marks leaves.
-use Rattle.std.specs.Prelude.{◌≡◌, ◌&&◌, ◌<◌, ℕ, true, false, List, [], Bool, Some, flat_map, length}
-use Rattle.std.specs.Prelude.{count_by, slice_get, slice_index_or}
+use Rattle.std.specs.Prelude.{◌≡◌, ◌&&◌, ◌<◌, ℕ, false, List, [], Bool, Some, flat_map, length}
+use Rattle.std.specs.Prelude.{count_by, slice_index_or}
 use Rattle.std.specs.List.{range_with_len, zip}
 use Rattle.tdb_base.specs.Agrees.{AgreesOver, entries_of_insertion}
 use Rattle.tdb_base.specs.History.{Vector, History, name_of, same}
 use Rattle.tdb_base.specs.Lines.{mine, named}
 use Rattle.tdb_base.specs.Renamed.{position_of, renamed}
-use Rattle.tdb_base.specs.Replies.{is_full, is_new}
+use Rattle.tdb_base.specs.Replies.{is_new}
 use Rattle.tdb_base.specs.declared.reply.Reply.{Reply}
 use Rattle.pair_rule.specs.declared.sizes.About.{About}
 use Rattle.pair_rule.specs.declared.pass.PassOf.{PassOf}
 use Rattle.pair_rule.specs.Part.{Part}
+use Rattle.trace_csv.specs.OneReport.{AreMarks}
 use Rattle.work_run.specs.Ran.{HasRunOver}
 use Rattle.work_run.specs.Telling.{then_set}
 
@@ -23,12 +24,6 @@ is_first firsts i = slice_index_or firsts i false
 abbrev pub entries_of_mark : ℕ → List Vector → List Reply → List Bool → ℕ → ℕ → History
 entries_of_mark flag trace replies firsts caller i =
     flat_map (then_set flag (is_first firsts i)) (entries_of_insertion trace replies caller i)
-
--- each line has a mark, and that of a line which is answered full is false
-pub record AreMarks (replies : List Reply) (firsts : List Bool) : Type 0 where
-  pub one_each : length firsts ≡ length replies
-  pub full : (i : ℕ) (reply : Reply) → slice_get replies i ≡ Some reply → is_full reply ≡ true
-      → slice_get firsts i ≡ Some false
 
 -- the lines are dealt out to the workers in blocks of `block` lines, inserted, and marked with the flag, and
 -- nobody else called after the earlier history
