@@ -11,6 +11,7 @@ pub mod PageLemmas
 pub mod PiecesLemmas
 pub mod ReportLemmas
 pub mod MarkLemmas
+pub mod MinusLemmas
 pub mod RowLemmas
 pub mod SortLemmas
 pub mod SortedLemmas

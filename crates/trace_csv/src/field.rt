@@ -84,7 +84,9 @@ fn number_among_spaces(field: &[u8], form: Form) -> Option<Number>
     ensures { option_map number_value result ≡ written form field.now }
 {
     let (_, text) = field.split_at(leading_spaces(field));
-    let (number, rest) = leading_number(text, form)?;
+    let Some((number, rest)) = leading_number(text, form) else {
+        return None;
+    };
     if leading_spaces(rest) < rest.len() {
         return None;
     }
