@@ -1,8 +1,8 @@
 -- The first line of a text, where it is numbers, commas and a line end.
 use Rattle.std.proofs.Common.{◌≡◌, ◌≤◌, ◌<◌, ◌+◌, ◌-◌, ◌^◌, ◌++◌, ℕ, suc, List, [], ◌∷◌, length, take, drop, get_or, Bool, true, false, Some, Ok, refl, sym, ap, arith, ◌∙◌, append-nil, append_assoc, length-append, ◌⊎◌, inl, inr, ⊎_elim}
 use Rattle.std.proofs.lemmas.Bool.{eqb-true, ne_eqb}
-use Rattle.std.proofs.lemmas.List.{get_or-take, length-take-le, take-append-drop, take_all}
-use Rattle.std.proofs.lemmas.List.Sums.{prefix_len-le-length, prefix_len_passes}
+use Rattle.std.proofs.lemmas.List.{drop_all, get_or-take, length-take-le, take-append-drop, take_all}
+use Rattle.std.proofs.lemmas.List.Sums.{prefix_len-le-length, prefix_len_is, prefix_len_passes}
 use Rattle.std.specs.Prelude.{if◌then◌else◌, ◌==◌, ◌||◌}
 use Rattle.std.specs.Char.{is_ascii_digit}
 use Rattle.std.specs.List.{list_all, prefix_len}
@@ -79,22 +79,90 @@ some-plain (c ∷ d ∷ digits) s fields field rest takes some all =
     ∙ some-plain (d ∷ digits) st.InField fields (field ++ c ∷ []) rest in-field (omega arith) (both-right (is_plain c) _ all)
     ∙ ap (λ t. next_record default_config st.InField fields t rest) (append_assoc field (c ∷ []) (d ∷ digits))
 
--- the bytes of a number: a minus, if it has one, and its digits
-number-bytes : (form : Form) (n : Number) (text rest : List ℕ) → HasNumber form text n rest
-    → (field : List ℕ) × (text ≡ field ++ rest) × (0 < length field) × (list_all is_plain field ≡ true) × (written form field ≡ Some (number_value n))
-number-bytes form n text rest h = ?
+digits-plain : (xs : List ℕ) → list_all is_ascii_digit xs ≡ true → list_all is_plain xs ≡ true
+digits-plain [] h = refl
+digits-plain (x ∷ xs) h =
+    let one = digit-plain x (both-left (is_ascii_digit x) _ h) in
+    let rest = digits-plain xs (both-right (is_ascii_digit x) _ h) in
+    rw (one, rest) refl
+
+-- a field at a text's front: its minus, if it has one, and its digits
+record FieldInFront (form : Form) (text digits rest : List ℕ) : Type 0 where
+  pub field : List ℕ
+  pub front : text ≡ field ++ rest
+  pub some : 0 < length field
+  pub all : list_all is_plain field ≡ true
+  pub minus : has_minus form field ≡ has_minus form text
+  pub after : after_minus form field ≡ digits
+
+field-in-front : (form : Form) (text digits rest : List ℕ) → after_minus form text ≡ digits ++ rest → 0 < length digits → list_all is_ascii_digit digits ≡ true
+    → FieldInFront form text digits rest
+field-in-front (Unsigned width) text digits rest e some all =
+    record { field = digits; front = e; some = some; all = digits-plain digits all; minus = refl; after = refl }
+field-in-front Signed text [] rest e some all = absurd (omega (arith, some))
+field-in-front Signed [] (d ∷ digits) rest e some all = cc e
+field-in-front Signed (x ∷ text) (d ∷ digits) rest e some all = by (x == 45) refl e
+  where
+    by : (b : Bool) → (x == 45) ≡ b → (if b then text else x ∷ text) ≡ d ∷ digits ++ rest → FieldInFront Signed (x ∷ text) (d ∷ digits) rest
+    by true is same =
+        let pass = digits-plain (d ∷ digits) all in
+        let plain : is_plain x ≡ true = rw (eqb-true x 45 is) refl in
+        record {
+          field = x ∷ d ∷ digits;
+          front = ap (λ t. x ∷ t) same;
+          some = omega arith;
+          all = rw plain pass;
+          minus = refl;
+          after = rw is refl;
+        }
+    by false is same =
+        let other : (d == 45) ≡ false = let range = digit-range d (both-left (is_ascii_digit d) _ all) in ne_eqb d 45 (λ f. omega (arith, range.0, f)) in
+        record {
+          field = d ∷ digits;
+          front = same;
+          some = some;
+          all = digits-plain (d ∷ digits) all;
+          minus = other ∙ sym is;
+          after = rw other refl;
+        }
+
+-- the digits of a number are a number alone
+number-of-digits : (form : Form) (n : Number) (text rest : List ℕ) (h : HasNumber form text n rest) (f : FieldInFront form text (take h.count (after_minus form text)) rest)
+    → written form f.field ≡ Some (number_value n)
+number-of-digits form n text rest h f =
+    let digits : List ℕ = take h.count (after_minus form text) in
+    let within = prefix_len-le-length is_ascii_digit (after_minus form text) in
+    let size : length (take h.count (after_minus form text)) ≡ h.count = length-take-le h.count (after_minus form text) (omega (arith, h.all, within)) in
+    let count : prefix_len is_ascii_digit (take h.count (after_minus form text)) ≡ h.count =
+    prefix_len_is is_ascii_digit (take h.count (after_minus form text)) h.count 0 (omega (arith, size))
+    (λ k d. rw (get_or-take h.count (after_minus form text) k 0 d) (prefix_len_passes is_ascii_digit (after_minus form text) k 0 (omega (arith, d, h.all))))
+    (λ d. absurd (omega (arith, size, d))) in
+    number-alone form f.field [] n (record {
+      count = h.count;
+      some = h.some;
+      few = h.few;
+      all = sym count ∙ ap (prefix_len is_ascii_digit) (sym f.after);
+      sign = h.sign ∙ sym f.minus;
+      size = h.size ∙ ap (digits_value 10) (sym (take_all h.count (take h.count (after_minus form text)) (omega (arith, size))))
+          ∙ ap (λ t. digits_value 10 (take h.count t)) (sym f.after);
+      left = sym (drop_all h.count (take h.count (after_minus form text)) (omega (arith, size))) ∙ ap (drop h.count) (sym f.after);
+    }) refl
 
 pub adds-number : (form : Form) (n : Number) (word : ℕ) (text rest old new : List ℕ) → HasNumber form text n rest → word_in form n ≡ Some word
     → new ≡ old ++ spread form (word ∷ []) → AddsNumber form text rest old new
 adds-number form n word text rest old new h is push =
-    let of = number-bytes form n text rest h in
+    let within = prefix_len-le-length is_ascii_digit (after_minus form text) in
+    let size : length (take h.count (after_minus form text)) ≡ h.count = length-take-le h.count (after_minus form text) (omega (arith, h.all, within)) in
+    let of = field-in-front form text (take h.count (after_minus form text)) rest
+    (sym (take-append-drop h.count (after_minus form text)) ∙ ap (λ t. take h.count (after_minus form text) ++ t) (sym h.left))
+    (omega (arith, size, h.some)) (digits-pass (after_minus form text) h.count h.all) in
     record {
-      field = of.0;
+      field = of.field;
       word = word;
-      front = of.1;
-      some = of.2;
-      all = of.3;
-      writes = λ row place. word-is form row place of.0 n of.4 ∙ ap (or_too_big row place) is;
+      front = of.front;
+      some = of.some;
+      all = of.all;
+      writes = λ row place. word-is form row place of.field n (number-of-digits form n text rest h of) ∙ ap (or_too_big row place) is;
       at_end = push;
     }
 

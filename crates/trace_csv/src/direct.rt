@@ -66,8 +66,8 @@ fn add_number<'a>(text: &'a [u8], form: Form, numbers: &mut Vec<u32>) -> Option<
 {
     let (number, rest) = leading_number(text, form)?;
     let word = number.word(form)?;
-    if add_word(word, form, numbers).is_err() {
+    let Ok(()) = add_word(word, form, numbers) else {
         return None;
-    }
+    };
     Some(rest)
 }

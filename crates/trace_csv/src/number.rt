@@ -61,6 +61,8 @@ impl Number {
 pub(crate) fn add_word(word: u32, form: Form, numbers: &mut Vec<u32>) -> Result<(), AllocError>
     ensures added { OnOk result (numbers.new.items ≡ numbers.old.items ++ spread form (word ∷ [])) }
     ensures memory { OnErr result (vec_capacity numbers.old < vec_len numbers.old + slots_in form 1) }
+    ensures longer { OnOk result (vec_len numbers.new ≡ vec_len numbers.old + slots_in form 1) }
+    ensures kept { vec_capacity numbers.old ≤ vec_capacity numbers.new }
 {
     match form {
         Form::Unsigned(_) => numbers.push(word)?,

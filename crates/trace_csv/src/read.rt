@@ -158,9 +158,9 @@ fn add_line(
             unreachable!()
         };
         let word = word(text, form, number, i as u64 + 1)?;
-        if add_word(word, form, numbers).is_err() {
+        let Ok(()) = add_word(word, form, numbers) else {
             unreachable!()
-        }
+        };
     }
     Ok(())
 }
