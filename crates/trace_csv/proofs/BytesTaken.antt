@@ -1,5 +1,5 @@
 -- How many bytes of its text the lines of a trace take: at least two for each number, but for the last line's end.
-use Rattle.std.proofs.Common.{◌≡◌, ◌≤◌, ◌<◌, ◌+◌, ◌-◌, ◌*◌, ◌++◌, ◌∷◌, ℕ, zero, suc, List, [], length, Bool, true, false, Option, Some, None, Result, Ok, Err, refl, arith, subst, length-append, length-drop}
+use Rattle.std.proofs.Common.{◌≡◌, ◌≤◌, ◌<◌, ◌+◌, ◌-◌, ◌*◌, ◌++◌, ◌∷◌, ℕ, zero, suc, List, [], length, Bool, true, false, Option, Some, None, Result, Ok, Err, refl, ap, arith, subst, length-append, length-drop}
 use Rattle.std.proofs.lemmas.Bool.{leb-true}
 use Rattle.std.proofs.lemmas.List.{length-take}
 use Rattle.std.proofs.lemmas.List.Elements.{All-weaker}

@@ -13,6 +13,7 @@ pub mod ReportLemmas
 pub mod MarkLemmas
 pub mod MinusLemmas
 pub mod RowLemmas
+pub mod SignedLemmas
 pub mod SortLemmas
 pub mod SortedLemmas
 pub mod TraceLemmas

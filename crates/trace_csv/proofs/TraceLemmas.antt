@@ -64,6 +64,10 @@ pub slots_in-more : (form : Form) (fields : ℕ) → slots_in form (fields + 1) 
 slots_in-more (Unsigned width) fields = refl
 slots_in-more Signed fields = omega arith
 
+pub slots_in-within : (form : Form) (a b : ℕ) → a ≤ b → slots_in form a ≤ slots_in form b
+slots_in-within (Unsigned width) a b h = h
+slots_in-within Signed a b h = omega (arith, h)
+
 pub slots_in-one : (form : Form) (a b : ℕ) → slots_in form a ≡ slots_in form b → a ≡ b
 slots_in-one (Unsigned width) a b e = e
 slots_in-one Signed a b e = omega (arith, e)

@@ -5,7 +5,7 @@ use Rattle.csv.specs.Records.{fields_of}
 use Rattle.trace_csv.specs.Trace.{each_from}
 use Rattle.trace_csv.specs.Words.{slots_in, spread, word_of}
 use Rattle.trace_csv.proofs.EachLemmas.{field-more, field-stop, field-there}
-use Rattle.trace_csv.proofs.TraceLemmas.{line_of-refused, line_of-words, slots_in-more, spread-more, spread-none}
+use Rattle.trace_csv.proofs.TraceLemmas.{line_of-refused, line_of-words, slots_in-more, slots_in-within, spread-more, spread-none}
 use Rattle.trace_csv.proofs.read.add_line.Goals as goal
 
 pub loop-i-init : goal.loop-i-init
@@ -30,7 +30,29 @@ returns-in_err-word-clause-refused c =
     (omega arith) (sym c.in-Some.ensures.value) c.loop-i.invariant.so_far (sym c.in_err-word.ensures)))
 
 pub loop-i-preserved : goal.loop-i-preserved
-loop-i-preserved c = ?
+loop-i-preserved c =
+    let inv = c.loop-i.invariant in
+    let form = c.args.form in
+    let within = slots_in-within form (c.loop-i.i + 1) c.args.fields (omega arith) in
+    let one = c.in-Ok.ensures in
+    record {
+      words = inv.words ++ c.in_ok-word.word ∷ [];
+      items = one.added ∙ ap (λ (t : List ℕ). t ++ spread form (c.in_ok-word.word ∷ [])) inv.items
+          ∙ append_assoc c.reserve.new.self.items (spread form inv.words) (spread form (c.in_ok-word.word ∷ []))
+          ∙ ap (λ t. c.reserve.new.self.items ++ t) (sym (spread-more form inv.words c.in_ok-word.word));
+      so_far = field-more (word_of form c.args.number) (fields_of c.args.row.now) c.loop-i.i c.in-Some.text.now inv.words _
+          (omega arith) (sym c.in-Some.ensures.value) inv.so_far (sym c.in_ok-word.ensures);
+      room = omega (arith, within, slots_in-more form c.loop-i.i, one.longer, one.kept, inv.room);
+    }
 
 pub returns-clause-added : goal.returns-clause-added
-returns-clause-added c = ?
+returns-clause-added c =
+    let inv = c.loop-i.invariant in
+    let all : take c.loop-i.i (fields_of c.args.row.now) ≡ fields_of c.args.row.now = take_all c.loop-i.i (fields_of c.args.row.now) (omega arith) in
+    let items : c.reserve.new.self.items ≡ c.args.numbers.now.items = c.reserve.ensures.items in
+    record {
+      added = spread c.args.form inv.words;
+      is_line = line_of-words c.args.form c.args.fields c.args.number (fields_of c.args.row.now) inv.words (omega arith)
+          (ap (each_from (word_of c.args.form c.args.number) 1) (sym all) ∙ inv.so_far);
+      at_end = inv.items ∙ ap (λ t. t ++ spread c.args.form inv.words) items;
+    }
