@@ -1,10 +1,10 @@
 -- How many bytes of its text the lines of a trace take: at least two for each number, but for the last line's end.
-use Rattle.std.proofs.Common.{◌≡◌, ◌≤◌, ◌<◌, ◌+◌, ◌-◌, ◌*◌, ◌++◌, ◌∷◌, ℕ, zero, suc, List, [], length, Bool, true, false, Option, Some, None, Result, Ok, Err, refl, arith, subst, length-append, length-drop}
+use Rattle.std.proofs.Common.{◌≡◌, ◌≤◌, ◌<◌, ◌+◌, ◌-◌, ◌*◌, ◌++◌, ◌∷◌, ℕ, zero, suc, List, [], length, Bool, true, false, Option, Some, None, Result, Ok, Err, refl, ap, arith, subst, length-append, length-drop}
 use Rattle.std.proofs.lemmas.Bool.{leb-true}
 use Rattle.std.proofs.lemmas.List.{length-take}
 use Rattle.std.proofs.lemmas.List.Elements.{All-weaker}
 use Rattle.std.proofs.lemmas.List.Sums.{sum_by-cons, sum_by_push}
-use Rattle.std.specs.Prelude.{if◌then◌else◌, ◌==◌, ◌&&◌, nat_le, All}
+use Rattle.std.specs.Prelude.{if◌then◌else◌, ◌&&◌, ◌^◌, nat_le, nat_lt, All, ℤ, option_map, drop}
 use Rattle.std.specs.Char.{is_ascii_digit}
 use Rattle.std.specs.List.{list_all, prefix_len, suffix_len, sum_by}
 use Rattle.std.specs.Str.Parse.{digits_value}
@@ -14,14 +14,17 @@ use Rattle.csv.specs.declared.parser.State.{State}
 use Rattle.csv.specs.declared.parser.State.TheVariants as st
 use Rattle.csv.specs.declared.parser.Action.{Action}
 use Rattle.csv.specs.declared.parser.Action.TheVariants as act
-use Rattle.trace_csv.specs.Fields.{after_spaces, before_spaces, digits_number, is_space, number}
+use Rattle.std.specs.Int.{cast_unsigned, w32}
+use Rattle.trace_csv.specs.Fields.{after_spaces, before_spaces, digits_number, has_minus, is_space, number, with_sign, written}
+use Rattle.trace_csv.specs.Signed.{is_signed}
+use Rattle.trace_csv.specs.Words.{slots_in, word_of}
 use Rattle.trace_csv.specs.Rows.{IsBetween, csv_rows}
-use Rattle.trace_csv.specs.Trace.{Unsigned, each_from, line_of, lines_of, number_below, put_first, slot_of, trace_of}
-use Rattle.trace_csv.specs.declared.refusal.TraceError.TheVariants.{Length, Ragged}
+use Rattle.trace_csv.specs.Trace.{Form, Signed, Unsigned, each_from, in_range, line_of, put_first, signed_at, trace_of}
+use Rattle.trace_csv.specs.declared.refusal.TraceError.TheVariants.{TooBig}
 use Rattle.trace_csv.proofs.EachLemmas.{each-all}
 use Rattle.trace_csv.proofs.FewLines.{few_stripped}
 use Rattle.trace_csv.proofs.RowLemmas.{leaves, not-empty}
-use Rattle.trace_csv.proofs.TraceLemmas.{length-line_of}
+use Rattle.trace_csv.proofs.TraceLemmas.{length-line_of, lines-of, ok-of, words-of}
 
 -- a field's bytes, and the one after it
 abbrev field_bytes : List ℕ → ℕ
@@ -132,37 +135,78 @@ some-field field n h =
     let back = length-drop (prefix_len is_space field) field in
     omega (arith, some, front, back)
 
-slot-bytes : (width row k : ℕ) (field : List ℕ) (n : ℕ) → slot_of (Unsigned width) row k field ≡ Ok n → 2 ≤ field_bytes field
-slot-bytes width row k field n h = by (number field) refl h
+in_range-some : {A : Type 0} (test : A → Bool) (row k : ℕ) (o : Option A) (y : A) → in_range test row k o ≡ Ok y → o ≡ Some y
+in_range-some test row k None y e = cc e
+in_range-some test row k (Some x) y e = by (test x) e
   where
-    by : (o : Option ℕ) → number field ≡ o → number_below width row k o ≡ Ok n → 2 ≤ field_bytes field
-    by None e q = cc q
-    by (Some m) e q = let some = some-field field m e in omega (arith, some)
-
-line-bytes : (width first row : ℕ) (fields : List (List ℕ)) (line : List ℕ) → line_of (Unsigned width) first row fields ≡ Ok line → 2 * first ≤ row_bytes fields
-line-bytes width first row fields line h = by (length fields == first) h
-  where
-    by : (b : Bool) → (if b then each_from (slot_of (Unsigned width) row) 1 fields else Err (Ragged row (length fields) first)) ≡ Ok line → 2 * first ≤ row_bytes fields
-    by true q =
-        let size : length line ≡ first = length-line_of width first row fields line h in
-        let some = each-least (slot_of (Unsigned width) row) field_bytes 2 (λ k field n. slot-bytes width row k field n) 1 fields line q in
-        omega (arith, size, some)
+    by : (b : Bool) → (if b then Ok x else Err (TooBig row k)) ≡ Ok y → Some x ≡ Some y
+    by true q = let same : x ≡ y = cc q in ap (λ t. Some t) same
     by false q = cc q
 
-pub lines-bytes : (width : ℕ) (bytes : List ℕ) (trace : List (List ℕ)) → trace_of (Unsigned width) bytes ≡ Ok trace
-    → All (λ line. 2 * length line * length trace ≤ length bytes + 1) trace
-lines-bytes width bytes trace h = by (csv_rows bytes) h (take-all (length (strip_bom bytes) + 1) st.StartRecord (strip_bom bytes) tt).all
-  where
-    after : (b : Bool) (row : List (List ℕ)) (rest : List (List (List ℕ)))
-        → (if b then each_from (line_of (Unsigned width) (length row)) 1 (row ∷ rest) else Err (Length 1 (length row))) ≡ Ok trace
-        → sum_by row_bytes (row ∷ rest) ≤ length (strip_bom bytes) + 1 → All (λ line. 2 * length line * length trace ≤ length bytes + 1) trace
-    after true row rest q few =
-        let least = each-least (line_of (Unsigned width) (length row)) row_bytes (2 * length row) (λ k fields line. line-bytes width (length row) k fields line) 1 (row ∷ rest) trace q in
-        let even = each-all (λ line. length line ≡ length row) (line_of (Unsigned width) (length row)) 1 (row ∷ rest) trace (λ k fields line. length-line_of width (length row) k fields line) q in
-        All-weaker (λ line. length line ≡ length row) (λ line. 2 * length line * length trace ≤ length bytes + 1) (λ line size. rw size (omega (arith, least, few, few_stripped bytes))) trace even
-    after false row rest q few = cc q
+map-some : {A B : Type 0} (f : A → B) (o : Option A) (y : B) → option_map f o ≡ Some y → (x : A) × (o ≡ Some x)
+map-some f None y e = cc e
+map-some f (Some x) y e = (x, refl)
 
-    by : (rows : List (List (List ℕ))) → lines_of (Unsigned width) rows ≡ Ok trace → sum_by row_bytes rows ≤ length (strip_bom bytes) + 1
-        → All (λ line. 2 * length line * length trace ≤ length bytes + 1) trace
-    by [] q few = cc q
-    by (row ∷ rest) q few = after (nat_le 2 (length row) && nat_le (length row) 1024) row rest q few
+some-signed : (field : List ℕ) (z : ℤ) → written Signed field ≡ Some z → 1 ≤ length field
+some-signed field z h = by (has_minus Signed text) h
+  where
+    text : List ℕ
+    text = before_spaces (after_spaces field)
+
+    front : length text ≤ length field
+    front = let one = length-take (length (after_spaces field) - suffix_len is_space (after_spaces field)) (after_spaces field) in
+        let two = length-drop (prefix_len is_space field) field in omega (arith, one, two)
+
+    by : (b : Bool) → option_map (with_sign b) (digits_number (if b then drop 1 text else text)) ≡ Some z → 1 ≤ length field
+    by true e = let is = map-some (with_sign true) (digits_number (drop 1 text)) z e in
+        let some = some-digits (drop 1 text) is.0 is.1 in let less = length-drop 1 text in omega (arith, some, less, front)
+    by false e = let is = map-some (with_sign false) (digits_number text) z e in
+        let some = some-digits text is.0 is.1 in omega (arith, some, front)
+
+word-bytes : (form : Form) (row k : ℕ) (field : List ℕ) (n : ℕ) → word_of form row k field ≡ Ok n → 2 ≤ field_bytes field
+word-bytes (Unsigned width) row k field n h =
+    let some = some-field field n (in_range-some (λ m. nat_lt m (2 ^ width)) row k (number field) n h) in omega (arith, some)
+word-bytes Signed row k field n h =
+    let is = ok-of (cast_unsigned w32) (signed_at row k field) n h in
+    let some = some-signed field is.0 (in_range-some is_signed row k (written Signed field) is.0 is.1) in omega (arith, some)
+
+line-bytes : (form : Form) (first row : ℕ) (fields : List (List ℕ)) (line : List ℕ) → line_of form first row fields ≡ Ok line → 2 * first ≤ row_bytes fields
+line-bytes form first row fields line h =
+    let of = words-of form first row fields line h in
+    let some = each-least (word_of form row) field_bytes 2 (λ k field n. word-bytes form row k field n) 1 fields of.words of.read in
+    omega (arith, of.count, some)
+
+-- the lines of a text take two bytes for each field, but for the last line's end
+pub record TakeBytes (form : Form) (bytes : List ℕ) (trace : List (List ℕ)) : Type 0 where
+  pub fields : ℕ
+  pub least : 2 ≤ fields
+  pub even : All (λ line. length line ≡ slots_in form fields) trace
+  pub short : 2 * fields * length trace ≤ length bytes + 1
+
+pub lines-bytes : (form : Form) (bytes : List ℕ) (trace : List (List ℕ)) → trace_of form bytes ≡ Ok trace → TakeBytes form bytes trace
+lines-bytes form bytes trace h =
+    let of = lines-of form (csv_rows bytes) trace h in
+    let few = (take-all (length (strip_bom bytes) + 1) st.StartRecord (strip_bom bytes) tt).all in
+    let least = each-least (line_of form of.fields) row_bytes (2 * of.fields) (λ k fields line. line-bytes form of.fields k fields line) 1 (csv_rows bytes) trace of.read in
+    record {
+      fields = of.fields;
+      least = of.least;
+      even = each-all (λ line. length line ≡ slots_in form of.fields) (line_of form of.fields) 1 (csv_rows bytes) trace (λ k fields line. length-line_of form of.fields k fields line) of.read;
+      short = omega (arith, few, least, few_stripped bytes);
+    }
+
+pub unsigned-bytes : (width : ℕ) (bytes : List ℕ) (trace : List (List ℕ)) → trace_of (Unsigned width) bytes ≡ Ok trace
+    → All (λ line. 2 * length line * length trace ≤ length bytes + 1) trace
+unsigned-bytes width bytes trace h =
+    let take = lines-bytes (Unsigned width) bytes trace h in
+    All-weaker (λ line. length line ≡ take.fields) (λ line. 2 * length line * length trace ≤ length bytes + 1) (λ line size. rw size take.short) trace take.even
+
+pub signed-bytes : (bytes : List ℕ) (trace : List (List ℕ)) → trace_of Signed bytes ≡ Ok trace → All (λ line. length line * length trace ≤ length bytes + 1) trace
+signed-bytes bytes trace h =
+    let take = lines-bytes Signed bytes trace h in
+    All-weaker (λ line. length line ≡ 2 * take.fields) (λ line. length line * length trace ≤ length bytes + 1) (λ line size. rw size take.short) trace take.even
+
+pub signed-least : (bytes : List ℕ) (trace : List (List ℕ)) → trace_of Signed bytes ≡ Ok trace → All (λ line. 4 ≤ length line) trace
+signed-least bytes trace h =
+    let take = lines-bytes Signed bytes trace h in
+    All-weaker (λ line. length line ≡ 2 * take.fields) (λ line. 4 ≤ length line) (λ line size. omega (arith, size, take.least)) trace take.even

@@ -30,7 +30,7 @@ pub small-step : (i n d : ℕ) → n < 10 ^ i → d ≤ 9 → n * 10 + d < 10 ^ 
 small-step i n d h k = rw add-one (omega arith)
 
 -- the items of the end that passes do pass
-suffix-passes : (p : ℕ → Bool) (xs : List ℕ) (k : ℕ) → length xs - suffix_len p xs ≤ k → k < length xs → p (get_or xs k 0) ≡ true
+pub suffix-passes : (p : ℕ → Bool) (xs : List ℕ) (k : ℕ) → length xs - suffix_len p xs ≤ k → k < length xs → p (get_or xs k 0) ≡ true
 suffix-passes p xs k h few =
     let back : length xs - 1 - k < length xs = omega arith in
     let within : length xs - 1 - k < prefix_len p (reverse xs) = omega arith in

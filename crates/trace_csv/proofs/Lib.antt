@@ -11,7 +11,9 @@ pub mod PageLemmas
 pub mod PiecesLemmas
 pub mod ReportLemmas
 pub mod MarkLemmas
+pub mod MinusLemmas
 pub mod RowLemmas
+pub mod SignedLemmas
 pub mod SortLemmas
 pub mod SortedLemmas
 pub mod TraceLemmas

@@ -1,28 +1,32 @@
 -- A text's first number and its first line, as they are read without `csv`.
-use Rattle.std.specs.Prelude.{◌≡◌, ◌<◌, ◌^◌, ℕ, List, [], ◌∷◌, ◌++◌, length, slice_index, Some, Ok, true}
+use Rattle.std.specs.Prelude.{◌≡◌, ◌<◌, ◌==◌, ◌||◌, ℕ, Bool, List, [], ◌∷◌, ◌++◌, length, slice_index, Ok, true}
 use Rattle.std.specs.Char.{is_ascii_digit}
 use Rattle.std.specs.List.{list_all}
 use Rattle.csv.specs.Reading.{default_config, records}
-use Rattle.trace_csv.specs.Fields.{number}
-use Rattle.trace_csv.specs.Trace.{Unsigned, each_from, slot_of}
+use Rattle.trace_csv.specs.Trace.{each_from}
+use Rattle.trace_csv.specs.Words.{spread, word_of}
+use Rattle.trace_csv.specs.declared.form.Form.{Form}
 
--- the text is some digits and the rest, and numbers gained the number that the digits write at their end
-pub record AddsNumber (width : ℕ) (text rest old new : List ℕ) : Type 0 where
-  pub digits : List ℕ
-  pub value : ℕ
-  pub front : text ≡ digits ++ rest
-  pub some : 0 < length digits
-  pub all : list_all is_ascii_digit digits ≡ true
-  pub writes : number digits ≡ Some value
-  pub below : value < 2 ^ width
-  pub at_end : new ≡ old ++ value ∷ []
+-- a byte of a number: a digit or a minus
+abbrev pub is_plain : ℕ → Bool
+is_plain c = is_ascii_digit c || (c == 45)
 
--- the text begins with a digit and a record, the rest has the records after it, and numbers gained those of
--- the record at their end
-pub record AddsFirstLine (width : ℕ) (text rest old new : List ℕ) : Type 0 where
+-- the text is a field of plain bytes and the rest, and numbers gained the field's slots at their end
+pub record AddsNumber (form : Form) (text rest old new : List ℕ) : Type 0 where
+  pub field : List ℕ
+  pub word : ℕ
+  pub front : text ≡ field ++ rest
+  pub some : 0 < length field
+  pub all : list_all is_plain field ≡ true
+  pub writes : (row place : ℕ) → word_of form row place field ≡ Ok word
+  pub at_end : new ≡ old ++ spread form (word ∷ [])
+
+-- the text begins with a plain byte and a record, the rest has the records after it, and numbers gained the
+-- slots of the record at their end
+pub record AddsFirstLine (form : Form) (text rest old new : List ℕ) : Type 0 where
   pub fields : List (List ℕ)
-  pub added : List ℕ
-  pub digit : is_ascii_digit (slice_index text 0) ≡ true
+  pub words : List ℕ
+  pub plain : is_plain (slice_index text 0) ≡ true
   pub first : records default_config text ≡ fields ∷ records default_config rest
-  pub slots : (row : ℕ) → each_from (slot_of (Unsigned width) row) 1 fields ≡ Ok added
-  pub at_end : new ≡ old ++ added
+  pub writes : (row : ℕ) → each_from (word_of form row) 1 fields ≡ Ok words
+  pub at_end : new ≡ old ++ spread form words

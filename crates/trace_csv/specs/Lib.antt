@@ -7,7 +7,9 @@ pub mod Page
 pub mod Pieces
 pub mod Report
 pub mod Rows
+pub mod Signed
 pub mod Sorted
 pub mod Trace
 pub mod Vectors
 pub mod Walk
+pub mod Words

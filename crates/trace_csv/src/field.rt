@@ -1,12 +1,13 @@
-//! What a field of a record writes, read from its front.
-ghost use Rattle.std.specs.Prelude.{◌≡◌, ◌≤◌, ◌<◌, ◌^◌, take, Some, IfSome, IfNone, length};
+//! The number that a field of a record writes, read from its front.
+ghost use Rattle.std.specs.Prelude.{◌≡◌, ◌≤◌, ◌<◌, ◌^◌, take, Some, IfSome, IfNone, length, option_map};
 ghost use Rattle.std.specs.Char.{is_ascii_digit};
 ghost use Rattle.std.specs.List.{prefix_len};
 ghost use Rattle.std.specs.Str.Parse.{digits_value};
-ghost use Rattle.trace_csv.specs.Fields.{is_space, number};
-ghost use Rattle.trace_csv.specs.Trace.{Unsigned, slot_of};
+ghost use Rattle.trace_csv.specs.Fields.{after_minus, has_minus, is_space, written};
+ghost use Rattle.trace_csv.specs.Words.{FitsWord, HasNoNumber, HasNumber, number_value, word_of};
 
-use crate::TraceError;
+use crate::number::Number;
+use crate::{Form, TraceError};
 
 // How many spaces stand at the front.
 fn leading_spaces(text: &[u8]) -> usize
@@ -23,12 +24,11 @@ fn leading_spaces(text: &[u8]) -> usize
 
 // The number that the digits at the front write, and how many they are. More than 10 are refused.
 #[inline(always)]
-pub(crate) fn leading_digits(text: &[u8]) -> Option<(u64, usize)>
+fn leading_digits(text: &[u8]) -> Option<(u64, usize)>
     ensures many { IfNone result (10 < prefix_len is_ascii_digit text.now) }
     ensures count { IfSome result (λ r. r.1 ≡ prefix_len is_ascii_digit text.now) }
     ensures few { IfSome result (λ r. r.1 ≤ 10) }
     ensures value { IfSome result (λ r. r.0 ≡ digits_value 10 (take r.1 text.now)) }
-    ensures small { IfSome result (λ r. r.0 < 10 ^ 10) }
 {
     let mut value = 0u64;
     for (i, byte) in text.iter().enumerate() {
@@ -43,60 +43,76 @@ pub(crate) fn leading_digits(text: &[u8]) -> Option<(u64, usize)>
     Some((value, text.len()))
 }
 
-// The number that a field of digits alone writes.
-fn digits_alone(field: &[u8]) -> Option<u64>
-    ensures value { IfSome result (λ n. number field.now ≡ Some n) }
-    ensures small { IfSome result (λ n. n < 10 ^ 10) }
+// The text after a minus at the front, and whether there is one that the form takes.
+#[inline(always)]
+fn split_minus<'a>(text: &'a [u8], form: Form) -> (bool, &'a [u8])
+    ensures minus { result.0 ≡ has_minus form text.now }
+    ensures after { result.1.now ≡ after_minus form text.now }
 {
-    let (value, count) = leading_digits(field)?;
-    if count == 0 || count < field.len() {
+    match (form, text) {
+        (Form::Signed, [b'-', after @ ..]) => (true, after),
+        _ => (false, text),
+    }
+}
+
+// The number at a text's front, and the text after it.
+#[inline(always)]
+pub(crate) fn leading_number<'a>(text: &'a [u8], form: Form) -> Option<(Number, &'a [u8])>
+    ensures none { IfNone result (HasNoNumber form text.now) }
+    ensures some { IfSome result (λ r. HasNumber form text.now r.0 r.1.now) }
+{
+    let (negative, digits) = split_minus(text, form);
+    let (size, count) = leading_digits(digits)?;
+    if count == 0 {
         return None;
     }
-    Some(value)
+    let (_, rest) = digits.split_at(count);
+    Some((Number { negative, size }, rest))
+}
+
+// The number that a field without spaces writes.
+fn number_alone(field: &[u8], form: Form) -> Option<Number>
+    ensures { IfSome result (λ n. written form field.now ≡ Some (number_value n)) }
+{
+    let (number, rest) = leading_number(field, form)?;
+    if rest.is_empty() { Some(number) } else { None }
 }
 
 // The number that a field writes, if it writes one, with any spaces round it.
 #[inline(never)]
-fn number_among_spaces(field: &[u8]) -> Option<u64>
-    ensures value { result ≡ number field.now }
-    ensures small { IfSome result (λ n. n < 10 ^ 10) }
+fn number_among_spaces(field: &[u8], form: Form) -> Option<Number>
+    ensures { option_map number_value result ≡ written form field.now }
 {
     let (_, text) = field.split_at(leading_spaces(field));
-    let Some((value, count)) = leading_digits(text) else {
+    let Some((number, rest)) = leading_number(text, form) else {
         return None;
     };
-    if count == 0 {
-        return None;
-    }
-    let (_, rest) = text.split_at(count);
     if leading_spaces(rest) < rest.len() {
         return None;
     }
-    Some(value)
+    Some(number)
 }
 
-// The number that a field writes, if it writes one. Most fields are digits alone.
-fn number_of(field: &[u8]) -> Option<u64>
-    ensures value { result ≡ number field.now }
-    ensures small { IfSome result (λ n. n < 10 ^ 10) }
+// The number that a field writes, if it writes one. Most fields have no spaces.
+fn number_of(field: &[u8], form: Form) -> Option<Number>
+    ensures { option_map number_value result ≡ written form field.now }
 {
-    if let Some(value) = digits_alone(field) {
-        return Some(value);
+    if let Some(number) = number_alone(field, form) {
+        return Some(number);
     }
-    number_among_spaces(field)
+    number_among_spaces(field, form)
 }
 
-// What a field of a record writes.
-pub(crate) fn slot(text: &[u8], width: u32, row: u64, field: u64) -> Result<u32, TraceError>
-    requires { width ≤ 31 }
-    ensures { result ≡ slot_of (Unsigned width) row field text.now }
+// The number that a field of a record writes, modulo 2^32.
+pub(crate) fn word(text: &[u8], form: Form, row: u64, field: u64) -> Result<u32, TraceError>
+    requires { FitsWord form }
+    ensures { result ≡ word_of form row field text.now }
 {
-    let Some(value) = number_of(text) else {
+    let Some(number) = number_of(text, form) else {
         return Err(TraceError::NotANumber(row, field));
     };
-    if value < 1 << width {
-        Ok(value as u32)
-    } else {
-        Err(TraceError::TooBig(row, field))
-    }
+    let Some(word) = number.word(form) else {
+        return Err(TraceError::TooBig(row, field));
+    };
+    Ok(word)
 }

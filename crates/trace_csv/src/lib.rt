@@ -7,8 +7,10 @@
 
 mod direct;
 mod field;
+mod form;
 mod input;
 pub mod laws;
+mod number;
 mod one_report;
 mod output;
 mod page;
@@ -21,16 +23,17 @@ mod vectors;
 mod walk;
 mod whole_text;
 
+pub use form::Form;
 pub use input::{InError, read_all};
 pub use one_report::{
     one_drawn_report_of_replies, one_marked_report_of_replies, one_report_of_replies,
 };
 pub use output::WriteFault;
-pub use read::read_trace;
+pub use read::{read_signed, read_trace};
 pub use refusal::TraceError;
 pub use report::{Stats, Summary, write_drawn, write_marks, write_report, write_summary};
 pub use trace::Trace;
-pub use vectors::write_vectors;
+pub use vectors::{write_signed, write_vectors};
 pub use walk::generate;
 pub use whole_text::write_text;
 

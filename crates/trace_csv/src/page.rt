@@ -1,7 +1,7 @@
 //! A page of text on the stack, which goes to a sink when it is full.
 ghost use Rattle.std.specs.Prelude.{◌≡◌, ◌+◌, ◌≤◌, ℕ, List, [], ◌++◌, length, take, true, OnOk, OnErr};
 ghost use Rattle.std.specs.Prelude.{IsTrue, ◌↔◌};
-ghost use Rattle.std.specs.Fmt.{decimal};
+ghost use Rattle.std.specs.Fmt.{decimal, signed_decimal};
 ghost use Rattle.std.specs.Io.KnownBytes.{Appends};
 ghost use Rattle.tdb_base.specs.Causes.{HasCause};
 ghost use Rattle.trace_csv.specs.Output.{TakesFront};
@@ -80,6 +80,16 @@ impl Page {
     pub fn add_number(&mut self, n: u64)
         requires { HasRoom self.old 20 }
         ensures text { self.new ≡ self.old ++ decimal n }
+        ensures short { length self.new ≤ length self.old + 20 }
+    {
+        let mut buffer = Buffer::new();
+        self.add(buffer.format(n).as_bytes());
+    }
+
+    /// Adds the decimal text of a signed number, at most 11 bytes.
+    pub fn add_signed(&mut self, n: i32)
+        requires { HasRoom self.old 20 }
+        ensures text { self.new ≡ self.old ++ signed_decimal n }
         ensures short { length self.new ≤ length self.old + 20 }
     {
         let mut buffer = Buffer::new();

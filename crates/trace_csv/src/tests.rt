@@ -2,7 +2,7 @@
 
 use crate::{
     InError, Stats, Summary, WriteFault, generate, read_all, write_drawn, write_marks,
-    write_report, write_summary, write_vectors,
+    write_report, write_signed, write_summary, write_vectors,
 };
 use std::alloc::Global;
 use std::process::Abort;
@@ -164,6 +164,23 @@ fn vectors_are_written(rt: HostRuntime) -> Result<(), Fail> {
     let mut sink = MemSink::new(alloc, 1000, Vec::new(alloc), 7)?;
     assert!(rt; write_vectors(2, &flat, &[], &mut sink).is_ok());
     assert!(rt; sink.bytes().is_empty());
+    Ok(())
+}
+
+#[test]
+fn signed_vectors_are_written(rt: HostRuntime) -> Result<(), Fail> {
+    let alloc = rt.alloc();
+    let flat = [65535, 65535, 0, 0, 32768, 0, 32767, 65535, 0, 10, 65535, 0];
+    let text = b"-2147483648,2147483647\n-1,0\n10,-65536\n-1,0\n";
+    let mut sink = MemSink::new(alloc, 1000, Vec::new(alloc), 7)?;
+    assert!(rt; write_signed(4, &flat, &[1, 0, 2, 0], &mut sink).is_ok());
+    assert_eq!(rt; sink.bytes(), text.as_slice());
+    let mut sink = MemSink::new(alloc, 1000, vec![in alloc; 3u64]?, 5)?;
+    assert!(rt; write_signed(4, &flat, &[1, 0, 2, 0], &mut sink) == Err(WriteFault));
+    assert_eq!(rt; sink.bytes(), b"-214748364".as_slice());
+    let mut sink = MemSink::new(alloc, 1000, Vec::new(alloc), 7)?;
+    assert!(rt; write_signed(6, &flat, &[1], &mut sink).is_ok());
+    assert_eq!(rt; sink.bytes(), b"2147483647,10,-65536\n".as_slice());
     Ok(())
 }
 

@@ -7,7 +7,7 @@ use Rattle.trace_csv.proofs.DirectLemmas.{front-is, no-field, then-comma, then-e
 use Rattle.trace_csv.proofs.direct.add_first_line.Goals as goal
 
 pub loop-field-init : goal.loop-field-init
-loop-field-init c = no-field c.args.width c.args.text.now c.args.numbers.now.items
+loop-field-init c = no-field c.args.form c.args.text.now c.args.numbers.now.items
 
 pub loop-field-preserved : goal.loop-field-preserved
 loop-field-preserved c =

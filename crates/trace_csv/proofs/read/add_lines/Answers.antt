@@ -2,7 +2,8 @@ use Rattle.std.proofs.Common.{◌∙◌, ◌++◌, ◌∷◌, [], List, ℕ, ari
 use Rattle.std.proofs.lemmas.Result.{err_from_is_err_and}
 use Rattle.csv.specs.Records.{fields_of}
 use Rattle.trace_csv.specs.Rows.{rows_left}
-use Rattle.trace_csv.specs.Trace.{AreRead, Unsigned, even_lines}
+use Rattle.trace_csv.specs.Trace.{even_lines}
+use Rattle.trace_csv.specs.Words.{AreRead}
 use Rattle.trace_csv.proofs.TraceLemmas.{AreRead-more, AreRead-none, AreRead-stop}
 use Rattle.trace_csv.proofs.read.add_lines.Goals as goal
 
@@ -12,15 +13,15 @@ loop-number-init c = record {
   done = [];
   count = refl;
   rows = refl;
-  read = AreRead-none c.args.width c.args.slots _ c.requires.none;
+  read = AreRead-none c.args.form c.args.fields _ c.requires.none;
 }
 
 pub returns-in_err-add_line-clause-refused : goal.returns-in_err-add_line-clause-refused
 returns-in_err-add_line-clause-refused c =
     let inv = c.loop-number.invariant in
     let p = err_from_is_err_and c.from_residual.result c.from_residual.ensures.1 in
-    rw (p.1, p.2) (λ other. ap (even_lines (Unsigned c.args.width) c.args.slots) inv.rows
-    ∙ AreRead-stop c.args.width c.args.slots c.loop-number.number inv.done (fields_of c.loop-number.row) _ c.loop-number.numbers.items _
+    rw (p.1, p.2) (λ other. ap (even_lines c.args.form c.args.fields) inv.rows
+    ∙ AreRead-stop c.args.form c.args.fields c.loop-number.number inv.done (fields_of c.loop-number.row) _ c.loop-number.numbers.items _
     inv.count inv.read (c.in_err-add_line.ensures.refused other))
 
 pub returns-then-not-branch-clause-count : goal.returns-then-not-branch-clause-count
@@ -36,9 +37,9 @@ returns-then-not-branch-clause-read c =
     let line = c.in_ok-add_line.ensures.added in
     let row = fields_of c.loop-number.row in
     let none = c.in_ok-next_row.ensures.end (ap (λ b. Ok b) c.if-not-branch.true) in
-    subst (λ (t : List (List (List ℕ))). AreRead c.args.width c.args.slots t c.add_line.new.numbers.items)
+    subst (λ (t : List (List (List ℕ))). AreRead c.args.form c.args.fields t c.add_line.new.numbers.items)
     (sym (inv.rows ∙ ap (λ t. inv.done ++ row ∷ t) none))
-    (AreRead-more c.args.width c.args.slots c.loop-number.number inv.done row c.loop-number.numbers.items c.add_line.new.numbers.items line.added
+    (AreRead-more c.args.form c.args.fields c.loop-number.number inv.done row c.loop-number.numbers.items c.add_line.new.numbers.items line.added
     inv.count inv.read line.is_line line.at_end)
 
 pub loop-number-preserved : goal.loop-number-preserved
@@ -52,7 +53,7 @@ loop-number-preserved c =
       done = inv.done ++ row ∷ [];
       count = simp length-append (omega arith);
       rows = inv.rows ∙ ap (λ t. inv.done ++ row ∷ t) found ∙ sym (append_assoc inv.done (row ∷ []) _);
-      read = AreRead-more c.args.width c.args.slots c.loop-number.number inv.done row c.loop-number.numbers.items c.add_line.new.numbers.items line.added
+      read = AreRead-more c.args.form c.args.fields c.loop-number.number inv.done row c.loop-number.numbers.items c.add_line.new.numbers.items line.added
           inv.count inv.read line.is_line line.at_end;
     }
 

@@ -1,41 +1,16 @@
-use Rattle.std.proofs.Common.{◌≡◌, ◌∙◌, arith, ◌+◌, ◌++◌, [], take, drop, get_or, ap, sym}
-use Rattle.std.proofs.lemmas.List.{append-nil, take_all}
-use Rattle.trace_csv.specs.Vectors.{vector_at, vector_line, vectors_of, vectors_text}
-use Rattle.trace_csv.proofs.OutputLemmas.{on_err}
-use Rattle.trace_csv.proofs.PageLemmas.{carries-front, carries-more, carries-stop}
-use Rattle.trace_csv.proofs.VectorsLemmas.{vectors-more, vectors-split}
+use Rattle.std.proofs.Common.{List, ℕ, OnErr, OnOk, subst}
+use Rattle.std.specs.Io.KnownBytes.{Appends}
+use Rattle.trace_csv.specs.Output.{TakesFront}
+use Rattle.trace_csv.specs.Vectors.{vectors_of}
+use Rattle.trace_csv.proofs.VectorsLemmas.{unsigned-text}
 use Rattle.trace_csv.proofs.vectors.write_vectors.Goals as goal
 
-pub returns-in_err-add_vector-clause-front : goal.returns-in_err-add_vector-clause-front
-returns-in_err-add_vector-clause-front g c =
-    let slots = c.args.slots in
-    let flat = c.args.flat.now in
-    let order = c.args.order.now in
-    let i = c.loop-number.number-index in
-    let vector : c.split_at-in-loop-number.result.0.now ≡ vector_at slots flat (get_or order i 0) =
-    c.split_at-in-loop-number.ensures.front ∙ ap (take slots) c.split_at.ensures.back in
-    let more : vectors_text (vectors_of slots flat (take i order)) ++ vector_line c.split_at-in-loop-number.result.0.now ≡ vectors_text (vectors_of slots flat (take (i + 1) order)) =
-    ap (λ v. vectors_text (vectors_of slots flat (take i order)) ++ vector_line v) vector ∙ sym (vectors-more slots flat order i (omega arith)) in
-    on_err _ _ (carries-front _ _ _ [] _ _ _ _ (vectors_text (vectors_of slots flat order)) c.loop-number.invariant.carried c.in_err-add_vector.ensures.front
-    (vectors-split slots flat order (i + 1) ∙ ap (λ t. t ++ vectors_text (vectors_of slots flat (drop (i + 1) order))) (sym more)))
+pub returns-clause-ok : goal.returns-clause-ok
+returns-clause-ok g c =
+    subst (λ (t : List ℕ). OnOk c.write_form.result (Appends (g.K.Sink.taken c.args.sink.now) (g.K.Sink.taken c.write_form.new.sink) t))
+    (unsigned-text 32 (vectors_of c.args.slots c.args.flat.now c.args.order.now)) c.write_form.ensures.ok
 
-pub loop-number-preserved : goal.loop-number-preserved
-loop-number-preserved g c =
-    let slots = c.args.slots in
-    let flat = c.args.flat.now in
-    let order = c.args.order.now in
-    let i = c.loop-number.number-index in
-    let vector : c.split_at-in-loop-number.result.0.now ≡ vector_at slots flat (get_or order i 0) =
-    c.split_at-in-loop-number.ensures.front ∙ ap (take slots) c.split_at.ensures.back in
-    record {
-      carried = rw (vectors-more slots flat order i (omega arith), ← vector)
-          (carries-more _ _ _ _ _ _ _ _ c.loop-number.invariant.carried c.in_ok-add_vector.ensures.ok);
-      later = omega (arith, c.in_ok-add_vector.ensures.cause.later);
-    }
-
-pub returns-in_err-close-clause-front : goal.returns-in_err-close-clause-front
-returns-in_err-close-clause-front g c =
-    let text = vectors_text (vectors_of c.args.slots c.args.flat.now c.args.order.now) in
-    let all : take c.loop-number.number-index c.args.order.now ≡ c.args.order.now = take_all c.loop-number.number-index c.args.order.now (omega arith) in
-    let carried = rw all at c.loop-number.invariant.carried in
-    on_err _ _ (carries-stop _ _ _ [] _ text [] text carried c.in_err-close.ensures.front (sym (append-nil text)))
+pub returns-clause-front : goal.returns-clause-front
+returns-clause-front g c =
+    subst (λ (t : List ℕ). OnErr c.write_form.result (TakesFront (g.K.Sink.taken c.args.sink.now) (g.K.Sink.taken c.write_form.new.sink) t))
+    (unsigned-text 32 (vectors_of c.args.slots c.args.flat.now c.args.order.now)) c.write_form.ensures.front
