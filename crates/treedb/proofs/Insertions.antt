@@ -5,18 +5,18 @@ use Rattle.std.specs.List.{range_with_len, zip}
 use Rattle.std.proofs.lemmas.List.Sums.{sum_by-cons}
 use Rattle.tdb_base.specs.Agrees.{AgreesOwned}
 use Rattle.tdb_base.specs.Headline.{CountsNames}
-use Rattle.tdb_base.specs.History.{Vector, Act, Put, Set, Clear, Look, Entry, History, name_of, names, same}
+use Rattle.tdb_base.specs.History.{Vector, Act, Put, Set, Clear, Look, History, name_of, names, same}
 use Rattle.tdb_base.specs.Legal.{IsLegal}
 use Rattle.tdb_base.specs.Lines.{AreShared}
 use Rattle.tdb_base.specs.Renamed.{position_of, renamed}
-use Rattle.tdb_base.specs.Replies.{is_full, is_new}
+use Rattle.tdb_base.specs.Replies.{is_full}
 use Rattle.tdb_base.specs.declared.reply.Reply.{Reply}
 use Rattle.tdb_base.proofs.HeadlineLemmas.{counts-names}
 use Rattle.tdb_base.proofs.RenameLemmas.{agrees_renamed}
 use Rattle.trace_csv.specs.Report.{marked_count}
 use Rattle.work_run.specs.Marks.{AgreesMarked, AreMarks, MarksTell}
 use Rattle.work_run.proofs.MarkLaws.{marks-are-counted, markers-renumbered, puts-agree}
-use Rattle.work_run.proofs.MarkParts.{put_of, puts_in}
+use Rattle.work_run.proofs.MarkParts.{puts_in}
 use Rattle.command_line.specs.Rules.{flag_count}
 use Rattle.command_line.specs.declared.outcome.Choice.{Choice}
 use Rattle.treedb.specs.Run.{AreFirstOnce}

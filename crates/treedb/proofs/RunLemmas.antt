@@ -8,7 +8,7 @@ use Rattle.tdb_base.proofs.HeadlineLemmas.{counts-distinct, different-lines, eac
 use Rattle.tdb_base.proofs.NameLemmas.{keeps-names}
 use Rattle.command_line.specs.declared.outcome.Choice.{Choice}
 use Rattle.command_line.specs.Rules.{flag_count}
-use Rattle.treedb.specs.Sharing.{Treated, owner_of}
+use Rattle.treedb.specs.Sharing.{owner_of}
 use Rattle.command_line.specs.declared.outcome.Job.{Job}
 use Rattle.command_line.specs.declared.outcome.Job.TheVariants.{Distinct}
 use Rattle.treedb.specs.Run.{Headline, IsText, IsTextOf, MarksAreFirstOnce, PrintsTheLines, Run}
