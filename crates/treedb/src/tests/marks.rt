@@ -148,8 +148,8 @@ fn one_of_eight_workers_marks_a_vector_first(rt: HostRuntime) -> Result<(), Fail
         let ran = run_on(&rt, alloc, &words, input.clone()?, SOUND, &NoGate)?;
         assert!(rt; ran.status == Status::Done);
         let text = ran.text.bytes();
-        let new = count_ends(text, b",new,first") + count_ends(text, b",new,again");
-        assert!(rt; new == 1);
+        let new = count_ends(text, b",new,first");
+        assert!(rt; new.saturating_add(count_ends(text, b",new,again")) == 1);
         assert!(rt; count_ends(text, b",first") == 1);
         assert!(rt; count_ends(text, b",again") == 999);
         assert!(rt; text.ends_with(b"lines 1000\ndistinct 1\nmarked 1\n"));
