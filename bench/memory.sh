@@ -59,6 +59,7 @@ for mode in plain compact; do
     job "$out/memory.trace" $workers insert --mode $mode --block 4 --stats
     job "$out/memory.trace" $workers insert --mode $mode --block 4 --claims
     job "$out/memory.trace" $workers distinct --mode $mode
+    job "$out/memory.trace" $workers mark --mode $mode --block 4
     job /dev/null $workers bench --mode $mode --lines 40 --slots 4
   done
 done
