@@ -288,17 +288,18 @@ fn try_good_signed(
 ) -> Result<(), Fail> {
     for i in 0..rows.len() {
         let (bytes, halves, fields) = rows[i];
+        let slots = fields.saturating_mul(2);
         assert!(rt;
             read_directly(alloc, bytes, Form::Signed).is_some() == direct,
             "row {i}"
         );
-        is_trace(rt, alloc, read_signed(alloc, bytes), halves, 2 * fields)?;
+        is_trace(rt, alloc, read_signed(alloc, bytes), halves, slots)?;
         is_trace(
             rt,
             alloc,
             read_rows(alloc, bytes, Form::Signed),
             halves,
-            2 * fields,
+            slots,
         )?;
     }
     Ok(())
