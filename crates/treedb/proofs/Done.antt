@@ -2,8 +2,9 @@
 use Rattle.std.proofs.Common.{◌≡◌, ◌≤◌, ◌+◌, ◌-◌, ◌*◌, ◌^◌, ℕ, List, [], ◌∷◌, length, Bool, true, false, Option, Some, None, refl, sym, ap, ◌∙◌, subst, inl, inr, ⊎_elim, arith}
 use Rattle.std.specs.Prelude.{◌⊎◌, All, Ok}
 use Rattle.std.proofs.Math.Nat.{mul_assoc, mul_comm}
-use Rattle.trace_csv.specs.Trace.{Unsigned, trace_of}
-use Rattle.trace_csv.proofs.BytesTaken.{lines-bytes}
+use Rattle.trace_csv.specs.Trace.{trace_of}
+use Rattle.trace_csv.specs.declared.form.Form.TheVariants.{Unsigned}
+use Rattle.trace_csv.proofs.BytesTaken.{unsigned-bytes}
 use Rattle.trace_csv.proofs.FewLines.{drawn_length}
 use Rattle.trace_csv.proofs.WalkLemmas.{walk-each}
 use Rattle.command_line.specs.Valid.{IsValid}
@@ -96,7 +97,7 @@ module _ (c : Choice) (told : Option (List ℕ)) (trace : List Vector) (input : 
       by true reads =
           let given = input.within reads in
           let lines = read_of c given.0 c.job trace reads (subst (λ (o : Option (List ℕ)). IsTraceFor c o c.job trace) given.1 input.lines) in
-          let bytes = of_first (λ (v : Vector). 2 * length v * length trace ≤ length given.0 + 1) line rest is (lines-bytes c.profile given.0 trace lines) in
+          let bytes = of_first (λ (v : Vector). 2 * length v * length trace ≤ length given.0 + 1) line rest is (unsigned-bytes c.profile given.0 trace lines) in
           let size = of_first (λ (v : Vector). length v ≡ slots) line rest is each in
           let few : 2 * slots * length trace ≤ length given.0 + 1 = rw (sym size) bytes in
           let whole : 2 * slots * length trace ≡ 2 * (slots * length trace) = mul_assoc 2 slots (length trace) in

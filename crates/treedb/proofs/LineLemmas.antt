@@ -2,7 +2,8 @@
 use Rattle.std.proofs.Common.{◌≡◌, ◌≢◌, ℕ, List, true, false, Option, Some, None, refl}
 use Rattle.std.specs.Prelude.{IfSome, Result, Ok, Err}
 use Rattle.tdb_base.specs.History.{Vector}
-use Rattle.trace_csv.specs.Trace.{Unsigned, trace_of}
+use Rattle.trace_csv.specs.Trace.{trace_of}
+use Rattle.trace_csv.specs.declared.form.Form.TheVariants.{Unsigned}
 use Rattle.trace_csv.specs.declared.refusal.TraceError.{TraceError}
 use Rattle.command_line.specs.declared.outcome.Job.{Job}
 use Rattle.command_line.specs.declared.outcome.Job.TheVariants.{Insert, Distinct, Bench, Check, Mark}

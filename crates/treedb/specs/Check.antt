@@ -7,7 +7,8 @@ use Rattle.tdb_base.specs.declared.reply.Reply.{Reply}
 use Rattle.tdb_base.specs.declared.reply.Status.{Status}
 use Rattle.tdb_base.specs.declared.reply.Status.TheVariants as s
 use Rattle.trace_csv.specs.Output.{TakesFront}
-use Rattle.trace_csv.specs.Trace.{Unsigned, trace_of}
+use Rattle.trace_csv.specs.Trace.{trace_of}
+use Rattle.trace_csv.specs.declared.form.Form.TheVariants.{Unsigned}
 use Rattle.run_check.specs.Sentences.{HasHistory, IsThatVerdict, IsYesWhereHistory}
 use Rattle.run_check.specs.Text.{IsReportOf, IsWrongAt}
 use Rattle.run_check.specs.declared.verdict.Verdict.{Verdict}

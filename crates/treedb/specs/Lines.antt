@@ -2,7 +2,8 @@
 use Rattle.std.specs.Prelude.{◌≡◌, ◌+◌, ℕ, Bool, true, false, List, Option, Some, None, Result, Ok, Err}
 use Rattle.std.specs.Prelude.{IfSome, drop, take}
 use Rattle.tdb_base.specs.History.{Vector}
-use Rattle.trace_csv.specs.Trace.{Unsigned, trace_of}
+use Rattle.trace_csv.specs.Trace.{trace_of}
+use Rattle.trace_csv.specs.declared.form.Form.TheVariants.{Unsigned}
 use Rattle.trace_csv.specs.Walk.{walk}
 use Rattle.run_check.specs.Cut.{IsCut}
 use Rattle.run_check.specs.Sentences.{IsLeast}

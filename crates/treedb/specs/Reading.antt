@@ -2,7 +2,8 @@
 use Rattle.std.specs.Prelude.{◌≡◌, ◌≢◌, ◌<◌, ◌↔◌, ℕ, List, Option, Result, Ok, Err, IfSome, length}
 use Rattle.std.specs.Io.KnownBytes.{Consumes}
 use Rattle.trace_csv.specs.Input.{limit}
-use Rattle.trace_csv.specs.Trace.{Unsigned, trace_of}
+use Rattle.trace_csv.specs.Trace.{trace_of}
+use Rattle.trace_csv.specs.declared.form.Form.TheVariants.{Unsigned}
 use Rattle.trace_csv.specs.declared.refusal.TraceError.{TraceError}
 use Rattle.trace_csv.specs.declared.refusal.TraceError.TheVariants as t
 use Rattle.command_line.specs.declared.outcome.Choice.{Choice}

@@ -1,4 +1,4 @@
-use Rattle.trace_csv.specs.Trace.{Unsigned}
+use Rattle.trace_csv.specs.declared.form.Form.TheVariants.{Unsigned}
 use Rattle.trace_csv.proofs.FewLines.{few_lines}
 use Rattle.treedb.proofs.input.lines_of.Goals as goal
 
