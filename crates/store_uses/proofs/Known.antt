@@ -1,0 +1,43 @@
+-- What a pass knows it goes on to know, whatever it calls.
+use Rattle.std.proofs.Common.{ℕ, List, All, Option, [], subst, sym}
+use Rattle.std.proofs.lemmas.List.Elements.{All-weaker}
+use Rattle.tdb_base.specs.History.{Vector, History}
+use Rattle.tdb_base.specs.Legal.{Extends}
+use Rattle.tdb_base.proofs.NameLemmas.{keeps-names}
+use Rattle.tdb_base.specs.declared.reply.Reply.{Reply}
+use Rattle.tdb_base.specs.declared.reply.Reply.TheVariants as r
+use Rattle.pair_rule.specs.declared.pass.PassOf.{PassOf}
+use Rattle.pair_rule.specs.Part.{Part, Store}
+use Rattle.pair_rule.specs.Plays.{Caught}
+use Rattle.pair_rule.specs.Rest.{AtRest, view}
+use Rattle.pair_rule.proofs.Histories.{extends_refl, extends_trans}
+use Rattle.tree_store.specs.Store.{Advanced, IsAnswered}
+use Rattle.store_uses.specs.Known.{IsKnown}
+
+module _ {T : Type 0} (part : Part T) (store : Store) (p q : PassOf T) (rest : AtRest part store q) where
+  -- the history that was seen is a front of the one that is seen now
+  pub known_stays : Extends (view p).seen (view q).seen → (id : ℕ) → IsKnown p id → IsKnown q id
+  known_stays front id n = (n.0, keeps-names (view q).about.flags (view p).seen (view q).seen rest.seat.sound.legal front n.0 id n.1)
+
+  advanced_stays : (more : History) → Advanced part more (view p) (view q) → (id : ℕ) → IsKnown p id → IsKnown q id
+  advanced_stays more a = known_stays (extends_trans (view p).seen a.log (view q).seen a.begins (record { more = more; whole = a.seen }))
+
+  -- an insertion
+  pub answered_stays : (last : Option Vector) (vector : Vector) (reply : Reply) → IsAnswered part store last vector reply p q → (id : ℕ) → IsKnown p id → IsKnown q id
+  answered_stays last vector (r.New id) a = advanced_stays _ a.call_is
+  answered_stays last vector (r.Seen id) a = advanced_stays _ a.call_is
+  answered_stays last vector r.FullNodes a =
+      known_stays (subst (λ (h : History). Extends (view p).seen h) (sym a.refused.grown.seen) (extends_refl (view p).seen))
+  answered_stays last vector r.FullRoots a = advanced_stays _ a.no_call
+
+  -- a call on what is known, as one that sets a flag
+  pub caught_stays : (more : History) → Caught part more (view p) (view q) → (id : ℕ) → IsKnown p id → IsKnown q id
+  caught_stays more k = known_stays (extends_trans (view p).seen k.log (view q).seen k.begins (record { more = more; whole = k.seen }))
+
+  -- a vector that was read
+  pub read_stays : Advanced part [] (view p) (view q) → (id : ℕ) → IsKnown p id → IsKnown q id
+  read_stays a = advanced_stays [] a
+
+-- what stays of each stays of all
+pub all_stay : {T : Type 0} (p q : PassOf T) → ((id : ℕ) → IsKnown p id → IsKnown q id) → (ids : List ℕ) → All (IsKnown p) ids → All (IsKnown q) ids
+all_stay p q stays ids each = All-weaker (IsKnown p) (IsKnown q) stays ids each
