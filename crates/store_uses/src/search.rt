@@ -132,7 +132,7 @@ fn expand_all(store: &Store, pass: &mut Pass, frontier: &mut Vec<u64>) -> Result
     Err(SearchError::TooManySteps)
 }
 
-// Searches from the first state on, in a store that may have other states as well.
+// Searches from the first state on. The states are those that got their names by this pass.
 fn search(alloc: Global, store: &Store, pass: &mut Pass) -> Result<Found, SearchError>
     requires sizes { (store.now.about.slots ≡ 5) × (store.now.about.flags ≡ 7) }
     requires rest { AtRest plain store.now pass.old }
