@@ -1,6 +1,6 @@
 -- What a pass knows it goes on to know, whatever it calls.
-use Rattle.std.proofs.Common.{ℕ, List, All, Option, [], subst, sym}
-use Rattle.std.proofs.lemmas.List.Elements.{All-weaker}
+use Rattle.std.proofs.Common.{◌≡◌, ℕ, List, All, Option, [], ◌∷◌, subst, sym, arith}
+use Rattle.std.proofs.lemmas.List.Elements.{All-weaker, All-push}
 use Rattle.tdb_base.specs.History.{Vector, History}
 use Rattle.tdb_base.specs.Legal.{Extends}
 use Rattle.tdb_base.proofs.NameLemmas.{keeps-names}
@@ -12,7 +12,9 @@ use Rattle.pair_rule.specs.Plays.{Caught}
 use Rattle.pair_rule.specs.Rest.{AtRest, view}
 use Rattle.pair_rule.proofs.Histories.{extends_refl, extends_trans}
 use Rattle.tree_store.specs.Store.{Advanced, IsAnswered}
-use Rattle.store_uses.specs.Known.{IsKnown}
+use Rattle.root_plain.specs.declared.root.Roots.{Roots}
+use Rattle.root_plain.specs.Plain.{plain}
+use Rattle.store_uses.specs.Known.{IsKnown, IsReady}
 
 module _ {T : Type 0} (part : Part T) (store : Store) (p q : PassOf T) (rest : AtRest part store q) where
   -- the history that was seen is a front of the one that is seen now
@@ -41,3 +43,17 @@ module _ {T : Type 0} (part : Part T) (store : Store) (p q : PassOf T) (rest : A
 -- what stays of each stays of all
 pub all_stay : {T : Type 0} (p q : PassOf T) → ((id : ℕ) → IsKnown p id → IsKnown q id) → (ids : List ℕ) → All (IsKnown p) ids → All (IsKnown q) ids
 all_stay p q stays ids each = All-weaker (IsKnown p) (IsKnown q) stays ids each
+
+-- a pass that became a worker's
+pub ready : (store : Store) (p q : PassOf Roots) (ids : List ℕ) → q ≡ p → AtRest plain store p → All (IsKnown p) ids → IsReady store q ids
+ready store p q ids same rest known = record {
+  rest = subst (λ (x : PassOf Roots). AtRest plain store x) (sym same) rest;
+  frontier_known = subst (λ (x : PassOf Roots). All (IsKnown x) ids) (sym same) known;
+}
+
+-- what holds of two holds of each in the list of both
+pub both : {X : Type 0} (P : X → Type 0) (a b : X) → P a → P b → All P (a ∷ b ∷ [])
+both {X} P a b pa pb = All-push P (a ∷ []) b (All-push P [] a none pa) pb
+  where
+    none : All P []
+    none k d low = absurd (omega (arith, low))

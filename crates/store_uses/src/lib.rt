@@ -3,8 +3,10 @@
 
 mod peterson;
 mod search;
+mod together;
 
 pub use search::{Found, SearchError, search_peterson};
+pub use together::search_together;
 
 #[cfg(test)]
 mod tests;

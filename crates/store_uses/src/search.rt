@@ -12,9 +12,9 @@ use thiserror::Error;
 use tree_shape::Shape;
 use tree_store::{CreateError, PlainPass, PlainStore};
 
-type Store = PlainStore<28, 7>;
+pub(crate) type Store = PlainStore<28, 7>;
 
-type Pass = PlainPass<28, 7>;
+pub(crate) type Pass = PlainPass<28, 7>;
 
 // The flag of a state that some caller has expanded.
 const EXPANDED: u32 = 0;
@@ -52,7 +52,7 @@ pub struct Found {
 }
 
 // Inserts a state: its identifier.
-fn insert(store: &Store, pass: &mut Pass, state: &[u32]) -> Result<u64, SearchError>
+pub(crate) fn insert(store: &Store, pass: &mut Pass, state: &[u32]) -> Result<u64, SearchError>
     requires rest { AtRest plain store.now pass.old }
     ensures rest { AtRest plain store.now pass.new }
     ensures known { IfOk result (IsKnown pass.new) }
@@ -116,7 +116,11 @@ fn expand(
 
 // Expands all states that can be reached from those in the frontier. Whether both processes are critical in
 // one of them.
-fn expand_all(store: &Store, pass: &mut Pass, frontier: &mut Vec<u64>) -> Result<bool, SearchError>
+pub(crate) fn expand_all(
+    store: &Store,
+    pass: &mut Pass,
+    frontier: &mut Vec<u64>,
+) -> Result<bool, SearchError>
     requires sizes { (store.now.about.slots ≡ 5) × (store.now.about.flags ≡ 7) }
     requires rest { AtRest plain store.now pass.old }
     requires frontier { All (IsKnown pass.old) frontier.old.items }
@@ -149,9 +153,11 @@ fn search(alloc: Global, store: &Store, pass: &mut Pass) -> Result<Found, Search
     })
 }
 
-/// Searches all states of Peterson's protocol for two processes, in a new store of `2^roots` roots: how many
-/// there are, and whether both processes are critical in one of them.
-pub fn search_peterson(alloc: Global, roots: u32) -> Result<Found, SearchError> {
+// A new store of `2^roots` roots, and its pass.
+pub(crate) fn create(alloc: Global, roots: u32) -> Result<(Store, Pass), SearchError>
+    ensures sizes { IfOk result (λ made. (made.0.about.slots ≡ 5) × (made.0.about.flags ≡ 7)) }
+    ensures rest { IfOk result (λ made. AtRest plain made.0 made.1) }
+{
     let sizes = Sizes {
         nodes: 10,
         roots,
@@ -159,6 +165,12 @@ pub fn search_peterson(alloc: Global, roots: u32) -> Result<Found, SearchError> 
         probe: 4_194_304,
     };
     let shape = Shape::new(START.len()).unwrap();
-    let (store, mut pass) = Store::create(alloc, shape, &sizes).map_err(SearchError::Create)?;
+    Store::create(alloc, shape, &sizes).map_err(SearchError::Create)
+}
+
+/// Searches all states of Peterson's protocol for two processes, in a new store of `2^roots` roots: how many
+/// there are, and whether both processes are critical in one of them.
+pub fn search_peterson(alloc: Global, roots: u32) -> Result<Found, SearchError> {
+    let (store, mut pass) = create(alloc, roots)?;
     search(alloc, &store, &mut pass)
 }

@@ -1,6 +1,6 @@
 //! The searches, whose numbers of states were found by a program of a few lines in another language.
 
-use crate::{Found, SearchError, search_peterson};
+use crate::{Found, SearchError, search_peterson, search_together};
 use std::test::Fail;
 
 // examples/peterson.py searches the same protocol by a set of tuples: 20 states, and never both critical.
@@ -14,5 +14,12 @@ fn peterson_has_twenty_states(rt: HostRuntime) -> Result<(), Fail> {
     assert_eq!(rt; found, wanted);
     let full = search_peterson(rt.alloc(), 3);
     assert!(rt; matches!(full, Err(SearchError::Full)));
+    Ok(())
+}
+
+#[test]
+fn two_threads_find_the_same(rt: HostRuntime) -> Result<(), Fail> {
+    let found = search_together(&rt, rt.alloc(), 6).expect(&rt, "it is searched to its end");
+    assert!(rt; found.states == 20 && !found.both_critical);
     Ok(())
 }

@@ -7,4 +7,4 @@ pub returns-clause-frontier : goal.returns-clause-frontier
 returns-clause-frontier c =
     let P = IsKnown c.insert.new.pass in
     subst (λ l. All P l) (sym c.in_ok-push.ensures.items)
-        (All-push P c.args.frontier.now.items _ (All-weaker (IsKnown c.args.pass.now) P c.insert.ensures.stay c.args.frontier.now.items c.requires.frontier) c.in_ok-id.ensures.known)
+    (All-push P c.args.frontier.now.items _ (All-weaker (IsKnown c.args.pass.now) P c.insert.ensures.stay c.args.frontier.now.items c.requires.frontier) c.in_ok-id.ensures.known)
