@@ -160,6 +160,9 @@ done
 
 awk 'BEGIN { x = 11; for (i = 0; i < 1000000; i++) { x = (x * 16807) % 2147483647; print x % 2003 "," int(x / 1000) % 499 } }' > "$work/million.csv"
 check_names "a million lines" "$work/million.csv" insert --workers 2
+check_names "a million lines in compact mode" "$work/million.csv" insert --mode compact --workers 2
+check_drawn "a million lines that two workers draw" "$work/million.csv" 2 64 insert
+check_marks "a million lines that are marked" "$work/million.csv" 2 64 --mode plain
 rm "$work/million.csv"
 
 # Tables that have just room for a trace: 64 roots fill a region of 64 cells
