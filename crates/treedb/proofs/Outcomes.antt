@@ -79,7 +79,7 @@ module _ {S K : Type 0} (c : Choice) (source : SourceStep S) (sink : SinkStep K)
     outcome = record {
       usage = λ u. absurd (taken_words u);
       refused_words = λ n. cc n;
-      unread = λ u. absurd (taken_words u);
+      unread = λ n. cc n;
       drawn = drawn;
       of_input = reads;
       read_fault = read;
@@ -207,7 +207,7 @@ module _ {S K : Type 0} (c : Choice) (source : SourceStep S) (sink : SinkStep K)
     outcome = record {
       usage = λ u. absurd (other s.Usage u refl);
       refused_words = λ n. cc n;
-      unread = λ u. absurd (other s.Usage u refl);
+      unread = λ n. cc n;
       drawn = input.drawn;
       of_input = λ i. absurd (not_of_input (status_of ended) printed i);
       read_fault = λ r. absurd (other s.ReadFault r refl);
@@ -237,7 +237,7 @@ module _ {S K : Type 0} (c : Choice) (source : SourceStep S) (sink : SinkStep K)
     outcome = record {
       usage = λ u. cc u;
       refused_words = λ n. cc n;
-      unread = λ u. cc u;
+      unread = λ n. cc n;
       drawn = input.drawn;
       of_input = λ i. cc i;
       read_fault = λ r. cc r;

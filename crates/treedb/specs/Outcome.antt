@@ -90,7 +90,7 @@ pub record Outcome {S K : Type 0} (offer : Option Choice) (source : SourceStep S
   -- the input is read to its end before it is looked at
   pub end : reads_to_end status ≡ true
       → IfSome offer (λ c. is_reader c.job ≡ true → IsAtEnd (source.left source.new))
-  pub unread : status ≡ s.Usage → source.new ≡ source.old
+  pub unread : offer ≡ None → source.new ≡ source.old
   pub drawn : IfSome offer (λ c. is_reader c.job ≡ false → source.new ≡ source.old)
   pub of_input : is_of_input status ≡ true → IfSome offer (λ c. is_reader c.job ≡ true)
   pub read_fault : status ≡ s.ReadFault → Rose (source.faults source.old) (source.faults source.new)

@@ -9,7 +9,7 @@ ghost use Rattle.tree_store.specs.Store.{IfNamed};
 use super::open;
 use crate::{CompactPass, CompactStore};
 use pair_rule::Sizes;
-use region_root::CompactRoot;
+use region_root::{CompactRoot, locks_taken};
 use std::alloc::Global;
 use std::process::Abort;
 use std::sync::Wait;
@@ -118,5 +118,22 @@ fn answers_full_roots(rt: HostRuntime) -> Result<(), Fail> {
     assert!(rt; steps.shown() == 65);
     assert!(rt; put(&rt, &store, &mut pass, &[0, 0], &mut steps) == Reply::Seen(0));
     assert!(rt; store.names_made(&pass) == 64);
+    Ok(())
+}
+
+// A vector that is new takes its region's lock once; reading it back, and inserting it again, take none.
+#[test]
+fn reads_take_no_lock(rt: HostRuntime) -> Result<(), Fail> {
+    let (store, mut pass) = store::<28, 7>(&rt, rt.alloc(), 3, 3, 6);
+    let mut steps = Steps::new(Silent);
+    let Reply::New(id) = put(&rt, &store, &mut pass, &[3, 5, 7], &mut steps) else {
+        panic!(rt; "not new")
+    };
+    assert_eq!(rt; locks_taken(store.nodes()), 1);
+    let mut out = [0, 0, 0];
+    store.read(&mut pass, id, &mut out);
+    assert!(rt; out == [3, 5, 7]);
+    assert!(rt; put(&rt, &store, &mut pass, &[3, 5, 7], &mut steps) == Reply::Seen(id));
+    assert_eq!(rt; locks_taken(store.nodes()), 1);
     Ok(())
 }

@@ -1,5 +1,6 @@
 //! Runs whose blocks the workers draw: the reports of compact mode were worked out by hand, since an identifier
 //! is its root as one number.
+use super::faults::fail_each_write;
 use super::schedules::{LONG, count_ends, input_of};
 use super::{Devices, SOUND, run_on, run_plain_on};
 use std::alloc::Global;
@@ -80,6 +81,42 @@ fn drawing_workers_run_at_once(rt: HostRuntime) -> Result<(), Fail> {
         assert!(rt; ran.status == Status::Done && !gate.timed_out());
         let one = format!(in alloc; "1,{id},seen,0\n2,{id},new,1\nlines 2\ndistinct 1\n")?;
         let other = format!(in alloc; "1,{id},seen,1\n2,{id},new,0\nlines 2\ndistinct 1\n")?;
+        let text = ran.text.bytes();
+        assert!(rt; text == one.as_bytes() || text == other.as_bytes());
+    }
+    Ok(())
+}
+
+// While the first of three lines waits for the third, the other worker draws both that are left. Were the lines
+// dealt in turn, the third would belong to the worker that waits.
+#[test]
+fn a_worker_draws_what_another_leaves(rt: HostRuntime) -> Result<(), Fail> {
+    let alloc = rt.alloc();
+    for (mode, ids) in [
+        ("plain", [6, 7, 3]),
+        ("compact", [268435458, 805306372, 1342177286]),
+    ] {
+        let gate = TurnGate::new(1, 3, LONG);
+        let words = [
+            "insert",
+            "--workers",
+            "2",
+            "--block",
+            "1",
+            "--claims",
+            "--mode",
+            mode,
+        ];
+        let input = b"1,2\n3,4\n5,6\n".to_vec(alloc)?;
+        let ran = run_on(&rt, alloc, &words, input, SOUND, &gate)?;
+        assert!(rt; ran.status == Status::Done && !gate.timed_out());
+        let [first, second, third] = ids;
+        let one = format!(in alloc;
+            "1,{first},new,0\n2,{second},new,1\n3,{third},new,1\nlines 3\ndistinct 3\n"
+        )?;
+        let other = format!(in alloc;
+            "1,{first},new,1\n2,{second},new,0\n3,{third},new,0\nlines 3\ndistinct 3\n"
+        )?;
         let text = ran.text.bytes();
         assert!(rt; text == one.as_bytes() || text == other.as_bytes());
     }
@@ -207,26 +244,7 @@ fn drawing_workers_count_alike(rt: HostRuntime) -> Result<(), Fail> {
 
 #[test]
 fn a_failing_sink_took_a_front_of_a_drawn_report(rt: HostRuntime) -> Result<(), Fail> {
-    let alloc = rt.alloc();
+    let words = ["insert", "--mode", "compact", "--claims"];
     let text = "1,805306373,new,0\nlines 1\ndistinct 1\n".as_bytes();
-    for write in 1..text.len() {
-        let words = ["insert", "--mode", "compact", "--claims"];
-        let devices = Devices {
-            piece: 1,
-            write: write as u64,
-            ..SOUND
-        };
-        let ran = run_on(
-            &rt,
-            alloc,
-            &words,
-            b"3,5\n".to_vec(alloc)?,
-            devices,
-            &NoGate,
-        )?;
-        assert_eq!(rt; ran.status, Status::WriteFault);
-        assert_eq!(rt; ran.text.bytes(), &text[..write - 1]);
-        assert_eq!(rt; ran.notes.bytes(), "treedb: write fault\n".as_bytes());
-    }
-    Ok(())
+    fail_each_write(&rt, rt.alloc(), &words, b"3,5\n", text)
 }

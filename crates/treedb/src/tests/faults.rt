@@ -1,7 +1,11 @@
 //! Inputs and devices that fail.
 use super::{Devices, Ran, SOUND, run_on, run_plain_on, words_of};
 use crate::run::run;
+use std::alloc::Global;
+use std::process::Abort;
+use std::sync::Wait;
 use std::test::Fail;
+use std::thread::Threads;
 use tdb_base::{NoGate, Sink, Source, Status, SureSink, SureSource};
 
 #[test]
@@ -76,8 +80,36 @@ fn tells_of_each_failing_read(rt: HostRuntime) -> Result<(), Fail> {
     Ok(())
 }
 
-// A report of 35 bytes to a sink that takes one a call is written by 35 writes: each that fails ends the run,
-// and isn't tried again.
+// What these words after the program's name do with a sink that takes one byte a call and whose n-th write
+// fails: for each write of the text the run ends there, and the write isn't tried again; there is no further one.
+pub(super) fn fail_each_write<R: Threads + Wait + Abort + Sync>(
+    rt: &R,
+    alloc: Global,
+    words: &[&str],
+    input: &[u8],
+    text: &[u8],
+) -> Result<(), Fail> {
+    let past = text.len().saturating_add(1);
+    for write in 1..past.saturating_add(1) {
+        let devices = Devices {
+            piece: 1,
+            write: write as u64,
+            ..SOUND
+        };
+        let ran = run_on(rt, alloc, words, input.to_vec(alloc)?, devices, &NoGate)?;
+        if write == past {
+            assert_eq!(rt; ran.status, Status::Done);
+            assert_eq!(rt; ran.text.bytes(), text);
+            assert!(rt; ran.notes.bytes().is_empty());
+        } else {
+            assert_eq!(rt; ran.status, Status::WriteFault);
+            assert_eq!(rt; ran.text.bytes(), &text[..write - 1]);
+            assert_eq!(rt; ran.notes.bytes(), "treedb: write fault\n".as_bytes());
+        }
+    }
+    Ok(())
+}
+
 #[test]
 fn tells_of_each_failing_write(rt: HostRuntime) -> Result<(), Fail> {
     let alloc = rt.alloc();
@@ -85,18 +117,7 @@ fn tells_of_each_failing_write(rt: HostRuntime) -> Result<(), Fail> {
         ("plain", "1,4,new\nlines 1\ndistinct 1\n".as_bytes()),
         ("compact", b"1,805306373,new\nlines 1\ndistinct 1\n"),
     ] {
-        let words = ["insert", "--mode", mode];
-        for write in 1..text.len() + 1 {
-            let devices = Devices {
-                piece: 1,
-                write: write as u64,
-                ..SOUND
-            };
-            let ran = run_on(&rt, alloc, &words, b"3,5".to_vec(alloc)?, devices, &NoGate)?;
-            assert_eq!(rt; ran.status, Status::WriteFault);
-            assert_eq!(rt; ran.text.bytes(), &text[..write - 1]);
-            assert_eq!(rt; ran.notes.bytes(), "treedb: write fault\n".as_bytes());
-        }
+        fail_each_write(&rt, alloc, &["insert", "--mode", mode], b"3,5", text)?;
     }
 
     // Pieces of four bytes, the second of which fails.

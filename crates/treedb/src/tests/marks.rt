@@ -1,5 +1,6 @@
 //! Runs that mark their lines, with the reports worked out by hand: identifiers in plain mode are those of the
 //! same lines without marks, and in compact mode an identifier is its root as one number.
+use super::faults::fail_each_write;
 use super::schedules::{LONG, count_ends, input_of};
 use super::{Devices, SOUND, run_on, run_plain_on};
 use command_line::USAGE;
@@ -251,22 +252,9 @@ fn many_lines_are_marked(rt: HostRuntime) -> Result<(), Fail> {
 
 #[test]
 fn a_failing_sink_took_a_front_of_the_marks(rt: HostRuntime) -> Result<(), Fail> {
-    let alloc = rt.alloc();
+    let words = ["mark", "--mode", "compact"];
     let text = "1,805306373,new,first\nlines 1\ndistinct 1\nmarked 1\n".as_bytes();
-    for write in 1..text.len() {
-        let words = ["mark", "--mode", "compact"];
-        let devices = Devices {
-            piece: 1,
-            write: write as u64,
-            ..SOUND
-        };
-        let input = b"3,5\n".to_vec(alloc)?;
-        let ran = run_on(&rt, alloc, &words, input, devices, &NoGate)?;
-        assert!(rt; ran.status == Status::WriteFault);
-        assert!(rt; ran.text.bytes() == &text[..write - 1]);
-        assert!(rt; ran.notes.bytes() == b"treedb: write fault\n".as_slice());
-    }
-    Ok(())
+    fail_each_write(&rt, rt.alloc(), &words, b"3,5\n", text)
 }
 
 #[test]

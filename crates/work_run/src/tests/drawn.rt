@@ -92,15 +92,16 @@ fn draw_in_many_ways(rt: HostRuntime) -> Result<(), Fail> {
     Ok(())
 }
 
-// Whether two workers, who draw a line each, run at once: one of them waits for the other.
-fn wait_for_another<R: Threads + Abort + Sync>(
+// Whether a held line, which one of two workers drew, sees another line done while it waits.
+fn sees_another_done<R: Threads + Abort + Sync>(
     rt: &R,
     alloc: Global,
+    text: &[u8],
     held: u64,
     until: u64,
 ) -> Result<bool, Fail> {
     let (store, mut pass) = store(alloc, 2, 3, 3)?;
-    let trace = lines(rt, alloc, &store, b"1,2\n3,4\n")?;
+    let trace = lines(rt, alloc, &store, text)?;
     let gate = TurnGate::new(held, until, 1_000_000_000);
     run(rt, alloc, &store, &mut pass, &trace, 2, 1, &gate)?;
     Ok(!gate.timed_out())
@@ -108,8 +109,15 @@ fn wait_for_another<R: Threads + Abort + Sync>(
 
 #[test]
 fn drawing_workers_run_at_once(rt: HostRuntime) -> Result<(), Fail> {
-    assert!(rt; wait_for_another(&rt, rt.alloc(), 1, 2)?);
-    assert!(rt; wait_for_another(&rt, rt.alloc(), 2, 1)?);
+    assert!(rt; sees_another_done(&rt, rt.alloc(), b"1,2\n3,4\n", 1, 2)?);
+    assert!(rt; sees_another_done(&rt, rt.alloc(), b"1,2\n3,4\n", 2, 1)?);
+    Ok(())
+}
+
+// Were the blocks dealt in turn, the third line would belong to the worker that holds the first.
+#[test]
+fn a_worker_draws_what_another_leaves(rt: HostRuntime) -> Result<(), Fail> {
+    assert!(rt; sees_another_done(&rt, rt.alloc(), b"1,2\n3,4\n5,6\n", 1, 3)?);
     Ok(())
 }
 
