@@ -173,6 +173,11 @@ bash checks/room.sh > "$work/got" 2>&1
 was=$?
 tell "$(tail -n 1 "$work/got")" "$([ $was -eq 0 ] && echo yes)" "$(head -n 3 "$work/got")"
 
+# The command itself, and what installs it
+bash checks/command.sh > "$work/got" 2>&1
+was=$?
+tell "$(tail -n 1 "$work/got")" "$([ $was -eq 0 ] && echo yes)" "$(head -n 3 "$work/got")"
+
 wants 'lines 100000\ndistinct 74191\n'
 check "drawn lines" 0 "" bench --lines 100000 --slots 32 --values 4 --seed 1 < /dev/null
 check "drawn lines by 8 workers" 0 "" bench --lines 100000 --slots 32 --values 4 --seed 1 --workers 8 < /dev/null
