@@ -312,6 +312,24 @@ else
   tell "the manual's example" no "$(diff "$work/got" "$work/wanted" | head -n 5)"
 fi
 
+# README's example gives what stands below it
+sed -n 's/^    \$ //p' README.md | head -n 1 > "$work/example"
+sed -n '/^    \$ /,/^$/p' README.md | sed -n '2,$s/^    //p' > "$work/wanted"
+if [ -s "$work/wanted" ] && bash "$work/example" 2>&1 | cmp -s - "$work/wanted"; then
+  tell "README's example" yes
+else
+  tell "README's example" no "$(cat "$work/example")"
+fi
+
+# the plots are those of their figures
+if ! command -v python3 > /dev/null; then
+  echo "skipped: the plots, for want of python3"
+else
+  python3 bench/plots.py --check > "$work/got" 2>&1
+  was=$?
+  tell "the plots and their figures" "$([ $was -eq 0 ] && echo yes)" "$(tail -n 1 "$work/got")"
+fi
+
 # the man page has each option and each note of the manual, and the manual each option of the usage text
 ./treedb 2> "$work/notes"
 lacking=$(
