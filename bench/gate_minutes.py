@@ -7,6 +7,8 @@ import glob, os, re, time
 top = os.path.realpath(os.path.join(os.path.dirname(__file__), ".."))
 tick = os.sysconf("SC_CLK_TCK")
 
+OTHER = "other", "proof"
+
 def read(path):
     try:
         with open(path, "rb") as f:
@@ -54,7 +56,7 @@ def place(found, pid):
                 inside = True
             return crate, "edits" if not inside else "tests" if "--test" in words else "proof"
         pid = found[pid][0]
-    return "other", "proof"
+    return OTHER
 
 spent = {}
 while True:
@@ -67,7 +69,11 @@ while True:
         continue
     for pid in found:
         if pid != root and under(found, pid, root):
-            spent[pid, read("/proc/%d/stat" % pid).rpartition(b")")[2].split()[19:20].__repr__()] = (place(found, pid), found[pid][2])
+            key = pid, read("/proc/%d/stat" % pid).rpartition(b")")[2].split()[19:20].__repr__()
+            where = place(found, pid)
+            if where == OTHER and key in spent:
+                where = spent[key][0]  # a process that is about to end has no words left
+            spent[key] = where, found[pid][2]
     time.sleep(0.5)
 
 rows = {}
