@@ -12,9 +12,11 @@ use crate::access::{ReadWords, WriteWords};
 use crate::cells::Sizes;
 use crate::reading::{group_place, group_seek, read_marks, run_end, run_front};
 use crate::writing::{put_alone, put_key, shift_down, shift_up};
+use thiserror::Error;
 
 /// Every cell of the region is occupied by another key.
-#[derive(Clone, Copy, Debug, PartialEq, Eq)]
+#[derive(Clone, Copy, Debug, PartialEq, Eq, Drop, Error)]
+#[error("the region is full")]
 pub struct RegionFull;
 
 // Where a new key of a home belongs in the home's run.

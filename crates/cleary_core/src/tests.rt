@@ -9,6 +9,7 @@ mod recorder;
 use super::{Region, RegionFull, laws};
 use recorder::Recorder;
 use std::process::Abort;
+use std::test::Fail;
 
 // Words that are all 0 keep a map.
 fn keeps_nothing<const W: u32, const F: u32>(_region: &Region<W, F>, _words: &[u64])
@@ -220,4 +221,11 @@ fn keeps_keys_of_three_profiles(rt: HostRuntime) {
     keeps_keys(&rt, &Region::<28, 7>::over(6, 6), &mut [0u64; 60]);
     keeps_keys(&rt, &Region::<31, 1>::over(24, 6), &mut [0u64; 42]);
     reaches_one_run(&rt);
+}
+
+#[test]
+fn errors_tell_what_is_wrong(rt: HostRuntime) -> Result<(), Fail> {
+    let alloc = rt.alloc();
+    assert!(rt; RegionFull.to_string(alloc)?.as_str() == "the region is full");
+    Ok(())
 }

@@ -1,5 +1,7 @@
 //! What the words choose.
 
+use thiserror::Error;
+
 /// The usage text, four lines that each end in LF.
 pub const USAGE: &str =
     "usage: treedb insert|distinct|bench|check|mark [--mode plain|compact] [--profile 16|28|31]\n  [--workers N] [--block N] [--nodes D] [--roots R] [--region S] [--probe P]\n  [--stats] [--lines N] [--slots K] [--values M] [--seed S]\n  [--claims] [--flag B]\n";
@@ -69,10 +71,12 @@ pub struct Choice {
 }
 
 /// Why nothing is chosen.
-#[derive(Clone, Copy, Debug, PartialEq, Eq)]
+#[derive(Clone, Copy, Debug, PartialEq, Eq, Drop, Error)]
 pub enum ChoiceError {
     /// The command doesn't take the words, or they break one of its rules.
+    #[error("the words choose nothing")]
     Usage,
     /// There was no memory for reading the words.
+    #[error("no memory")]
     NoMemory,
 }

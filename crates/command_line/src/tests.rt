@@ -345,3 +345,11 @@ fn words_sizes_and_usage(rt: HostRuntime) -> Result<(), Fail> {
     assert!(rt; USAGE == TOLD);
     Ok(())
 }
+
+#[test]
+fn errors_tell_what_is_wrong(rt: HostRuntime) -> Result<(), Fail> {
+    let alloc = rt.alloc();
+    assert!(rt; ChoiceError::Usage.to_string(alloc)?.as_str() == "the words choose nothing");
+    assert!(rt; ChoiceError::NoMemory.to_string(alloc)?.as_str() == "no memory");
+    Ok(())
+}

@@ -1,66 +1,42 @@
-//! Callers of one table, each with a pass of its own and a share of the numbers.
+//! Callers of one table and their shares of some numbers.
 
-ghost use Rattle.std.specs.Prelude.{◌≤◌, All, IfOk};
-ghost use Rattle.pair_rule.specs.Rest.{AtRest};
+use pair_rule::Caller;
 
-use pair_rule::{PairTable, Pass, PassOf, RootPart};
-use std::alloc::Global;
-use tdb_base::NoMemory;
-
-/// A caller, the numbers that are its share, and how many of its calls found no place or no name.
-pub struct Caller<T> {
-    /// Its pass.
-    pub pass: PassOf<T>,
-    /// The first number of its share.
-    pub from: u64,
-    /// The number behind its share.
-    pub to: u64,
-    /// How many of its calls found no place or no name.
+/// A caller's share of some numbers, and how many of its calls found no place or no name.
+#[derive(Clone, Copy)]
+pub struct Share {
+    callers: u64,
+    numbers: u64,
+    /// How many of the caller's calls found no place or no name.
     pub missed: u64,
 }
 
-impl<T> Drop for Caller<T> {
-    fn drop(self) {
-        let Self {
-            pass: _,
-            from: _,
-            to: _,
-            missed: _,
-        } = self;
-    }
-}
-
-/// So many callers, to each its share of so many numbers.
-pub fn split_callers<R: RootPart<28, 7>>(
-    alloc: Global,
-    table: &PairTable<R, 28, 7>,
-    pass: &mut Pass<R, 28, 7>,
-    count: u64,
-    numbers: u64,
-) -> Result<Vec<Caller<R::View>>, NoMemory>
-    requires count { (1 ≤ count) × (count ≤ 64) }
-    requires numbers { numbers ≤ 524288 }
-    requires rest { AtRest R.part table.now pass.old }
-    ensures callers { IfOk result (λ v. All (λ c. AtRest R.part table.now c.pass) v.items) }
-{
-    let mut callers = Vec::new(alloc);
-    for number in 0..count {
-        let pass = table.split(alloc, pass)?;
-        callers.push(Caller {
-            pass,
-            from: number * numbers / count,
-            to: (number + 1) * numbers / count,
+impl Share {
+    /// That of each of so many callers, of so many numbers.
+    pub fn of(callers: u64, numbers: u64) -> Share {
+        Share {
+            callers,
+            numbers,
             missed: 0,
-        })?;
+        }
     }
-    Ok(callers)
+
+    /// The first number of the share of the caller with this number, and the number behind the share.
+    pub fn range(&self, caller: u64) -> (u64, u64) {
+        let callers = self.callers.max(1);
+        let next = caller.saturating_add(1);
+        (
+            caller.saturating_mul(self.numbers) / callers,
+            next.saturating_mul(self.numbers) / callers,
+        )
+    }
 }
 
 /// How many calls of all callers found no place or no name.
-pub fn missed_by<T>(callers: &[Caller<T>]) -> u64 {
+pub fn missed_by<T>(callers: &[Caller<T, Share>]) -> u64 {
     let mut missed = 0u64;
     for caller in callers {
-        missed = missed.saturating_add(caller.missed);
+        missed = missed.saturating_add(caller.kept.missed);
     }
     missed
 }

@@ -1,9 +1,8 @@
 //! Times `set_flag` of plain roots that are there beside a plain `fetch_or` on the words of as large a table.
 
 ghost use Rattle.std.specs.Prelude.{◌≡◌, ◌≤◌, ◌<◌, ◌^◌, ℕ, All, IfOk, IfSome};
-ghost use Rattle.pair_rule.specs.Rest.{AtRest};
+ghost use Rattle.pair_rule.specs.Rest.{AtRest, KnowsName};
 ghost use Rattle.root_plain.specs.Plain.{plain};
-ghost use Rattle.measure.specs.Named.{IsNamed};
 
 use crate::clock::nanoseconds_since;
 use pair_nodes::Nodes;
@@ -27,8 +26,8 @@ fn put_pair(roots: &Roots, pass: &mut RootsPass, left: u64, right: u64) -> Optio
     requires rest { AtRest plain roots.now pass.old }
     requires parts { (left < 2 ^ 28) × (right < 2 ^ 28) }
     ensures rest { AtRest plain roots.now pass.new }
-    ensures named { IfSome result (IsNamed pass.new) }
-    ensures stay { (id : ℕ) → IsNamed pass.old id → IsNamed pass.new id }
+    ensures named { IfSome result (KnowsName pass.new) }
+    ensures stay { (id : ℕ) → KnowsName pass.old id → KnowsName pass.new id }
 {
     let mut steps = Steps::new(Silent);
     match put_root(roots, pass, left, right, &mut steps) {
@@ -48,7 +47,7 @@ fn fill(
     requires slots { roots.now.about.slots ≡ 2 }
     requires rest { AtRest plain roots.now pass.old }
     ensures rest { AtRest plain roots.now pass.new }
-    ensures named { IfOk result (λ ids. All (IsNamed pass.new) ids.items) }
+    ensures named { IfOk result (λ ids. All (KnowsName pass.new) ids.items) }
 {
     let mut ids = Vec::new(alloc);
     for number in 0..count {
@@ -64,9 +63,9 @@ fn fill(
 fn set_all(roots: &Roots, pass: &mut RootsPass, ids: &[u64], b: u32) -> u64
     requires flag { (roots.now.about.flags ≡ 7) × (b ≤ 6) }
     requires rest { AtRest plain roots.now pass.old }
-    requires named { All (IsNamed pass.old) ids.now }
+    requires named { All (KnowsName pass.old) ids.now }
     ensures rest { AtRest plain roots.now pass.new }
-    ensures named { All (IsNamed pass.new) ids.now }
+    ensures named { All (KnowsName pass.new) ids.now }
 {
     let mut first = 0u64;
     for id in ids {
@@ -110,7 +109,7 @@ fn time_turns(
 ) -> io::Result<(u64, u64, u64)>
     requires flags { roots.now.about.flags ≡ 7 }
     requires rest { AtRest plain roots.now pass.old }
-    requires named { All (IsNamed pass.old) ids.now }
+    requires named { All (KnowsName pass.old) ids.now }
 {
     let (mut flags, mut bits, mut first) = (0u64, 0u64, 0u64);
     for b in 0..7u32 {

@@ -4,10 +4,10 @@ ghost use Rattle.std.specs.Prelude.{◌≡◌, ◌≤◌, ◌<◌, ◌^◌, All}
 ghost use Rattle.pair_rule.specs.Rest.{AtRest};
 ghost use Rattle.pair_rule.specs.NoRoots.{no_roots};
 
-use crate::callers::{Caller, missed_by, split_callers};
+use crate::callers::{Share, missed_by};
 use crate::clock::nanoseconds_since;
 use pair_nodes::Nodes;
-use pair_rule::{NoRoot, PairTable, Pass, Sizes};
+use pair_rule::{Caller, NoRoot, PairTable, Pass, Sizes};
 use std::process::ExitCode;
 use std::thread::Threads;
 use std::time::Instant;
@@ -40,7 +40,7 @@ fn put_all(nodes: &Nodes<NoRoot, 28, 7>, pass: &mut Pass<NoRoot, 28, 7>, from: u
 fn put_shares<H: Threads + Sync>(
     handle: &H,
     nodes: &Nodes<NoRoot, 28, 7>,
-    callers: &mut [Caller<()>],
+    callers: &mut [Caller<(), Share>],
     all: bool,
 )
     requires width { nodes.now.about.width ≡ 28 }
@@ -53,7 +53,7 @@ fn put_shares<H: Threads + Sync>(
             handle,
             callers,
             count,
-            &|_, caller: &mut Caller<()>|
+            &|_, caller: &mut Caller<(), Share>|
                 requires width { nodes.now.about.width ≡ 28 }
                 requires rest { AtRest no_roots nodes.now caller.now.pass }
                 ensures { AtRest no_roots nodes.entry.now caller.exit.now.pass }
@@ -61,9 +61,9 @@ fn put_shares<H: Threads + Sync>(
                 let (from, to) = if all {
                     (0, PAIRS)
                 } else {
-                    (caller.from, caller.to)
+                    caller.kept.range(caller.number)
                 };
-                caller.missed = put_all(nodes, &mut caller.pass, from, to);
+                caller.kept.missed = put_all(nodes, &mut caller.pass, from, to);
             },
         );
     }
@@ -128,7 +128,10 @@ fn time_pairs<H: Threads + Sync>(
 {
     let (table, mut pass) = Table::create(rt.alloc(), &sizes_of(20), 16)?;
     let nodes = Nodes::over(table);
-    let mut callers = split_callers(rt.alloc(), nodes.table(), &mut pass, threads, PAIRS)?;
+    let share = Share::of(threads, PAIRS);
+    let mut callers = nodes
+        .table()
+        .split_callers(rt.alloc(), &mut pass, threads, share)?;
     Ok(time_rounds(rt, handle, &nodes, callers.as_mut_slice()))
 }
 
@@ -137,7 +140,7 @@ fn time_rounds<H: Threads + Sync>(
     rt: &HostRuntime,
     handle: &H,
     nodes: &Nodes<NoRoot, 28, 7>,
-    callers: &mut [Caller<()>],
+    callers: &mut [Caller<(), Share>],
 ) -> (u64, u64, u64)
     requires width { nodes.now.about.width ≡ 28 }
     requires callers { All (λ c. AtRest no_roots nodes.now c.pass) callers.old }
@@ -152,7 +155,7 @@ fn timed<H: Threads + Sync>(
     rt: &HostRuntime,
     handle: &H,
     nodes: &Nodes<NoRoot, 28, 7>,
-    callers: &mut [Caller<()>],
+    callers: &mut [Caller<(), Share>],
     all: bool,
 ) -> u64
     requires width { nodes.now.about.width ≡ 28 }

@@ -4,11 +4,11 @@ ghost use Rattle.std.specs.Prelude.{◌≡◌, ℕ, ◌≤◌, ◌<◌, ◌^◌,
 ghost use Rattle.pair_rule.specs.Rest.{AtRest};
 ghost use Rattle.measure.specs.Asked.{IsAsked};
 
-use crate::callers::{Caller, missed_by, split_callers};
+use crate::callers::{Share, missed_by};
 use crate::calls::{CompactCalls, PlainCalls, RootCalls};
 use crate::clock::nanoseconds_since;
 use pair_nodes::Nodes;
-use pair_rule::{PairTable, PassOf, Sizes};
+use pair_rule::{Caller, PairTable, PassOf, Sizes};
 use region_root::CompactRoot;
 use root_plain::PlainRoot;
 use std::process::ExitCode;
@@ -62,19 +62,19 @@ enum Call {
 }
 
 // Does it so often with the roots of one caller's share.
-fn call_all<D: RootCalls>(roots: &D, caller: &mut Caller<D::View>, call: Call, rounds: u64)
+fn call_all<D: RootCalls>(roots: &D, caller: &mut Caller<D::View, Share>, call: Call, rounds: u64)
     requires width { (D.store roots.now).about.width ≡ 28 }
     requires slots { (D.store roots.now).about.slots ≡ 2 }
     requires rest { AtRest D.part (D.store roots.now) caller.old.pass }
     ensures { AtRest D.part (D.store roots.now) caller.new.pass }
 {
-    let (from, to) = (caller.from, caller.to);
+    let (from, to) = caller.kept.range(caller.number);
     for _ in 0..rounds {
         let missed = match call {
             Call::Put => put_all(roots, &mut caller.pass, from, to),
             Call::Look => look_all(roots, &mut caller.pass, from, to),
         };
-        caller.missed = caller.missed.saturating_add(missed);
+        caller.kept.missed = caller.kept.missed.saturating_add(missed);
     }
 }
 
@@ -113,7 +113,7 @@ fn call_at_once<H: Threads + Sync, D: RootCalls>(
     rt: &HostRuntime,
     handle: &H,
     roots: &D,
-    callers: &mut [Caller<D::View>],
+    callers: &mut [Caller<D::View, Share>],
     call: Call,
     rounds: u64,
 ) -> io::Result<u64>
@@ -130,7 +130,7 @@ fn call_at_once<H: Threads + Sync, D: RootCalls>(
 fn call_in_threads<H: Threads + Sync, D: RootCalls>(
     handle: &H,
     roots: &D,
-    callers: &mut [Caller<D::View>],
+    callers: &mut [Caller<D::View, Share>],
     call: Call,
     rounds: u64,
 )
@@ -145,7 +145,7 @@ fn call_in_threads<H: Threads + Sync, D: RootCalls>(
             handle,
             callers,
             count,
-            &|_, caller: &mut Caller<D::View>|
+            &|_, caller: &mut Caller<D::View, Share>|
                 requires width { (D.store roots.now).about.width ≡ 28 }
                 requires slots { (D.store roots.now).about.slots ≡ 2 }
                 requires rest { AtRest D.part (D.store roots.now) caller.now.pass }
@@ -162,7 +162,7 @@ fn time_table<H: Threads + Sync, D: RootCalls>(
     rt: &HostRuntime,
     handle: &H,
     roots: &D,
-    callers: &mut [Caller<D::View>],
+    callers: &mut [Caller<D::View, Share>],
     asked: Asked,
 ) -> io::Result<Times>
     requires width { (D.store roots.now).about.width ≡ 28 }
@@ -205,13 +205,8 @@ fn time_plain<H: Threads + Sync>(
 {
     let sizes = sizes_of(asked);
     let (table, mut pass) = PairTable::<PlainRoot<28, 7>, 28, 7>::create(rt.alloc(), &sizes, 2)?;
-    let mut callers = split_callers(
-        rt.alloc(),
-        &table,
-        &mut pass,
-        asked.threads,
-        count_of(asked),
-    )?;
+    let share = Share::of(asked.threads, count_of(asked));
+    let mut callers = table.split_callers(rt.alloc(), &mut pass, asked.threads, share)?;
     let nodes = Nodes::over(table);
     let roots = PlainCalls { nodes: &nodes };
     Ok(time_table(rt, handle, &roots, callers.as_mut_slice(), asked))
@@ -226,13 +221,8 @@ fn time_compact<H: Threads + Wait + Sync>(
 {
     let sizes = sizes_of(asked);
     let (table, mut pass) = PairTable::<CompactRoot<28, 7>, 28, 7>::create(rt.alloc(), &sizes, 2)?;
-    let mut callers = split_callers(
-        rt.alloc(),
-        &table,
-        &mut pass,
-        asked.threads,
-        count_of(asked),
-    )?;
+    let share = Share::of(asked.threads, count_of(asked));
+    let mut callers = table.split_callers(rt.alloc(), &mut pass, asked.threads, share)?;
     let nodes = Nodes::over(table);
     let roots = CompactCalls {
         rt: handle,

@@ -1,14 +1,13 @@
 -- The laws of passes, whatever root table a store has.
-use Rattle.std.proofs.Common.{◌≡◌, ◌≤◌, ℕ, [], ◌∷◌, Bool, true, Some, refl, sym, ap, ◌∙◌, subst}
+use Rattle.std.proofs.Common.{◌≡◌, ◌≤◌, ℕ, [], ◌∷◌, Bool, true, Some, sym, ap, ◌∙◌, subst}
 use Rattle.tree_shape.specs.Tree.{RootStands}
 use Rattle.tree_shape.proofs.Trees.{one_vector, one_root}
 use Rattle.tdb_base.specs.History.{Vector, name_of}
 use Rattle.tdb_base.proofs.NameLemmas.{names-differ, entry-named}
 use Rattle.pair_rule.specs.declared.view.View.{View}
 use Rattle.pair_rule.specs.declared.sizes.About.{About}
-use Rattle.pair_rule.specs.declared.pass.PassOf.{PassOf}
-use Rattle.pair_rule.specs.Part.{Part, Store}
-use Rattle.pair_rule.specs.Rest.{AtRest, HasAll, view}
+use Rattle.pair_rule.specs.Part.{Part}
+use Rattle.pair_rule.specs.Rest.{HasAll, view}
 use Rattle.pair_rule.specs.Calls.{call}
 use Rattle.pair_rule.specs.Plays.{Caught}
 use Rattle.pair_nodes.specs.PassLaws.{NamesDiffer, RootsAreNaming, NewNames, WholeHasAll}

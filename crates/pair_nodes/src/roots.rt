@@ -2,7 +2,7 @@
 ghost use Rattle.std.specs.Prelude.{◌≡◌, ◌^◌, ◌<◌, IfOk, OnErr, MatchResult, false, option_map};
 ghost use Rattle.packed_word.specs.Word.{pair_of};
 ghost use Rattle.tdb_base.specs.Fakes.{counted};
-ghost use Rattle.pair_rule.specs.Rest.{AtRest, view};
+ghost use Rattle.pair_rule.specs.Rest.{AtRest, view, KnowsName};
 ghost use Rattle.pair_rule.specs.Calls.{IsSomeRoot};
 ghost use Rattle.pair_nodes.specs.Roots.{RootPut, RootRefused, IsFoundOrPut, IsPutAfterLook};
 
@@ -27,7 +27,7 @@ pub trait RootNames<const W: u32, const F: u32> {
     /// The root, as its two parts, of the vector with this identifier, which the pass has seen named.
     fn read(&self, pass: &mut Pass<Self::Part, W, F>, id: u64) -> (u64, u64)
         requires rest { AtRest Self.Part.part (store self.now) pass.old }
-        requires named { (vector : Vector) × (name_of (view pass.old).seen vector ≡ Some id) }
+        requires named { KnowsName pass.old id }
         ensures read { RootRead Self.Part.part (store self.now) id result pass.old pass.new }
         ensures no_look { IsUnlooked Self.Part.part (view pass.old).root (view pass.new).root };
 

@@ -5,7 +5,7 @@ ghost use Rattle.pair_rule.specs.NoRoots.{no_roots};
 ghost use Rattle.pair_rule.specs.Rest.{AtRest};
 
 use super::Nodes;
-use pair_rule::{NoRoot, NodesFull, PairTable, Pass, PassOf, RootPart, Sizes};
+use pair_rule::{Caller, NoRoot, NodesFull, PairTable, Pass, RootPart, Sizes};
 use std::alloc::Global;
 use std::process::Abort;
 use std::test::Fail;
@@ -34,7 +34,7 @@ fn put_pairs<L: Ledger, R: RootPart<W, F>, const W: u32, const F: u32>(
     pass: &mut Pass<R, W, F>,
     begins: u64,
     count: u64,
-    answers: &mut [Option<u64>; 12],
+    answers: &mut Answers,
     steps: &mut Steps<L>,
 )
     requires rest { AtRest R.part nodes.now pass.old }
@@ -49,19 +49,14 @@ fn put_pairs<L: Ledger, R: RootPart<W, F>, const W: u32, const F: u32>(
     }
 }
 
-// A caller's pass, from which of the pairs on it puts them, and what it was answered for each.
-#[derive(Drop)]
-struct Caller<T> {
-    pass: PassOf<T>,
-    begins: u64,
-    answers: [Option<u64>; 12],
-}
+// What a caller was answered for each pair.
+type Answers = [Option<u64>; 12];
 
 // All callers put so many pairs, each in a thread of its own.
 fn put_at_once<H: Threads + Sync>(
     rt: &H,
     nodes: &Nodes<NoRoot, 16, 8>,
-    callers: &mut [Caller<()>],
+    callers: &mut [Caller<(), Answers>],
     pairs: u64,
 )
     requires width { nodes.now.about.width ≡ 16 }
@@ -74,7 +69,7 @@ fn put_at_once<H: Threads + Sync>(
             rt,
             callers,
             count,
-            &|_, caller: &mut Caller<()>|
+            &|_, caller: &mut Caller<(), Answers>|
                 requires width { nodes.now.about.width ≡ 16 }
                 requires rest { AtRest no_roots nodes.now caller.now.pass }
                 ensures { AtRest no_roots nodes.entry.now caller.exit.now.pass }
@@ -83,9 +78,9 @@ fn put_at_once<H: Threads + Sync>(
                 put_pairs::<Silent, NoRoot, 16, 8>(
                     nodes,
                     &mut caller.pass,
-                    caller.begins,
+                    5 * (caller.number % 12),
                     pairs,
-                    &mut caller.answers,
+                    &mut caller.kept,
                     &mut steps,
                 );
             },
@@ -93,44 +88,20 @@ fn put_at_once<H: Threads + Sync>(
     }
 }
 
-// As many callers as asked for, each with a pass of its own.
-fn split_callers(
-    alloc: Global,
-    nodes: &Nodes<NoRoot, 16, 8>,
-    pass: &mut Pass<NoRoot, 16, 8>,
-    count: u64,
-) -> Result<Vec<Caller<()>>, NoMemory>
-    requires { AtRest no_roots nodes.now pass.old }
-    ensures rest { AtRest no_roots nodes.now pass.new }
-    ensures callers { IfOk result (λ v. All (λ c. AtRest no_roots nodes.now c.pass) v.items) }
-{
-    let table = nodes.table();
-    let mut callers = Vec::new(alloc);
-    for number in 0..count {
-        let pass = table.split(alloc, pass)?;
-        callers.push(Caller {
-            pass,
-            begins: 5 * (number % 12),
-            answers: [None; 12],
-        })?;
-    }
-    Ok(callers)
-}
-
 // Whether all callers were answered alike, and different pairs differently; and how many pairs have an index.
-fn alike(callers: &[Caller<()>]) -> Option<u64> {
+fn alike(callers: &[Caller<(), Answers>]) -> Option<u64> {
     let first = callers.get(0)?;
     let mut found = 0u64;
-    for (i, answer) in first.answers.iter().enumerate() {
+    for (i, answer) in first.kept.iter().enumerate() {
         for caller in callers {
-            if caller.answers[i] != *answer {
+            if caller.kept[i] != *answer {
                 return None;
             }
         }
         if answer.is_some() {
             found = u64::saturating_add(found, 1);
             for j in 0..i {
-                if first.answers[j] == *answer {
+                if first.kept[j] == *answer {
                     return None;
                 }
             }
@@ -157,21 +128,17 @@ fn finds_what_it_put(rt: HostRuntime) -> Result<(), Fail> {
 fn fills_up(rt: HostRuntime) -> Result<(), Fail> {
     let (table, mut pass) = PairTable::<NoRoot, 16, 8>::create(rt.alloc(), &SIZES_OF_8, 4)?;
     let nodes = Nodes::over(table);
-    let mut caller = Caller {
-        pass,
-        begins: 0,
-        answers: [None; 12],
-    };
+    let mut caller = Caller::new(0, pass, [None; 12]);
     let mut steps = Steps::new(Silent);
     put_pairs::<Silent, NoRoot, 16, 8>(
         &nodes,
         &mut caller.pass,
         0,
         12,
-        &mut caller.answers,
+        &mut caller.kept,
         &mut steps,
     );
-    for (i, answer) in caller.answers.iter().enumerate() {
+    for (i, answer) in caller.kept.iter().enumerate() {
         assert!(rt; answer.is_some() == (i < 8));
     }
     let pass = &caller.pass;
@@ -213,24 +180,34 @@ fn compare<H: Threads + Abort + Sync>(
     let mut callers = split_callers(alloc, &nodes, &mut pass, count)?;
     put_at_once(rt, &nodes, callers.as_mut_slice(), pairs);
     assert!(rt; alike(callers.as_slice()) == Some(room));
-    let made = join_callers(&nodes, &mut pass, callers);
-    assert!(rt; made == room);
+    assert!(rt; join_callers(&nodes, &mut pass, callers) == room);
     Ok(())
+}
+
+// So many callers that were answered nothing yet.
+fn split_callers(
+    alloc: Global,
+    nodes: &Nodes<NoRoot, 16, 8>,
+    pass: &mut Pass<NoRoot, 16, 8>,
+    count: u64,
+) -> Result<Vec<Caller<(), Answers>>, NoMemory>
+    requires { AtRest no_roots nodes.now pass.old }
+    ensures rest { AtRest no_roots nodes.now pass.new }
+    ensures callers { IfOk result (λ v. All (λ c. AtRest no_roots nodes.now c.pass) v.items) }
+{
+    nodes.table().split_callers(alloc, pass, count, [None; 12])
 }
 
 // All callers are joined; answers how many nodes they put.
 fn join_callers(
     nodes: &Nodes<NoRoot, 16, 8>,
     pass: &mut Pass<NoRoot, 16, 8>,
-    callers: Vec<Caller<()>>,
+    callers: Vec<Caller<(), Answers>>,
 ) -> u64
     requires rest { AtRest no_roots nodes.now pass.old }
     requires callers { All (λ c. AtRest no_roots nodes.now c.pass) callers.items }
 {
-    for caller in callers {
-        let Caller { pass: other, .. } = caller;
-        nodes.table().join(pass, other);
-    }
+    nodes.table().join_callers(pass, callers);
     pass.nodes_count
 }
 
@@ -250,7 +227,7 @@ fn two_threads_put_one_pair(rt: HostRuntime) -> Result<(), Fail> {
     let mut callers = split_callers(rt.alloc(), &nodes, &mut pass, 2)?;
     put_at_once(&rt, &nodes, callers.as_mut_slice(), 2);
     for caller in &callers {
-        assert!(rt; caller.answers[0] == Some(0) && caller.answers[1] == Some(59));
+        assert!(rt; caller.kept[0] == Some(0) && caller.kept[1] == Some(59));
     }
     assert!(rt; join_callers(&nodes, &mut pass, callers) == 2);
     Ok(())

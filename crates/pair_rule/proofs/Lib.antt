@@ -14,3 +14,5 @@ pub mod Names
 pub mod Catches
 pub mod Widths
 pub mod Calling
+pub mod Elements
+pub mod InTurn

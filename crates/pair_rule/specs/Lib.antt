@@ -9,3 +9,4 @@ pub mod Splits
 pub mod NoRoots
 pub mod Plays
 pub mod Calls
+pub mod Callers

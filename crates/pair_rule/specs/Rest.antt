@@ -5,7 +5,7 @@ use Rattle.std.specs.List.{list_any}
 use Rattle.std.specs.Prelude.{◌==◌}
 use Rattle.atomic_table.specs.declared.shared.Seat.{Seat}
 use Rattle.tree_shape.specs.Tree.{Has, IsNaming, Stands}
-use Rattle.tdb_base.specs.History.{Vector, History, is_fresh, calls}
+use Rattle.tdb_base.specs.History.{Vector, History, is_fresh, calls, name_of}
 use Rattle.tdb_base.specs.Legal.{IsLegal, Extends}
 use Rattle.pair_rule.specs.declared.view.View.{View}
 use Rattle.pair_rule.specs.declared.view.Old.{Old}
@@ -96,6 +96,10 @@ module _ {T : Type 0} where
 
   abbrev pub view : PassOf T → View T
   view p = p.seat.me.0
+
+  -- the pass has seen that a vector was given this identifier
+  abbrev pub KnowsName : PassOf T → ℕ → Type 0
+  KnowsName p id = (vector : Vector) × (name_of (view p).seen vector ≡ Some id)
 
   -- the vector of the pass's last tree, if it has one: the values at the slots' positions
   abbrev pub last_vector : PassOf T → Option Vector

@@ -6,6 +6,7 @@
 //! What a root table adds to the rule is its `RootPart`.
 #![tactic(auto)]
 
+mod callers;
 mod full;
 mod no_root;
 mod opening;
@@ -19,6 +20,7 @@ mod table;
 mod view;
 mod witness;
 
+pub use callers::Caller;
 pub use full::{NodesFull, RootsFull};
 pub use no_root::NoRoot;
 pub use opening::Opening;

@@ -3,11 +3,11 @@ ghost use Rattle.std.specs.Prelude.{◌≡◌, ℕ, ◌+◌, ◌*◌, ◌^◌, �
 ghost use Rattle.std.specs.Prelude.{MatchBool, MatchOption};
 ghost use Rattle.tree_shape.specs.Tree.{Has};
 ghost use Rattle.packed_word.specs.Word.{pair_of};
-ghost use Rattle.tdb_base.specs.History.{Vector, Put, name_of};
+ghost use Rattle.tdb_base.specs.History.{Put};
 ghost use Rattle.pair_nodes.specs.Roots.{RootFound, RootUnknown, RootRead};
 ghost use Rattle.pair_rule.specs.Calls.{Called, IsNoName, KeepsBuffers};
 ghost use Rattle.pair_rule.specs.Plays.{Caught};
-ghost use Rattle.pair_rule.specs.Rest.{AtRest, view};
+ghost use Rattle.pair_rule.specs.Rest.{AtRest, view, KnowsName};
 ghost use Rattle.region_root.specs.declared.root.Holding.{Holding};
 ghost use Rattle.region_root.specs.Layout.{place, IsPacked, KeepsRoots};
 ghost use Rattle.region_root.specs.Compact.{LockedOnce, compact};
@@ -124,7 +124,7 @@ pub fn root_pair<const W: u32, const F: u32>(
     id: u64,
 ) -> (u64, u64)
     requires rest { AtRest (compact W F) nodes.now pass.old }
-    requires named { (vector : Vector) × (name_of (view pass.old).seen vector ≡ Some id) }
+    requires named { KnowsName pass.old id }
     ensures read { RootRead (compact W F) nodes.now id result pass.old pass.new }
     ensures still { pass.new ≡ pass.old }
 {

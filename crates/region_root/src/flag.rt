@@ -2,10 +2,10 @@
 ghost use Rattle.std.specs.Prelude.{◌≡◌, ℕ, ◌^◌, ◌<◌, List, [], ◌∷◌, Some};
 ghost use Rattle.tree_shape.specs.Tree.{Has};
 ghost use Rattle.tdb_base.specs.Acts.{act_of};
-ghost use Rattle.tdb_base.specs.History.{Vector, Set, Clear, Look, name_of, with_bit, without_bit};
+ghost use Rattle.tdb_base.specs.History.{Set, Clear, Look, with_bit, without_bit};
 ghost use Rattle.pair_nodes.specs.Roots.{RootActed};
 ghost use Rattle.pair_rule.specs.Calls.{KeepsBuffers};
-ghost use Rattle.pair_rule.specs.Rest.{AtRest, view};
+ghost use Rattle.pair_rule.specs.Rest.{AtRest, view, KnowsName};
 ghost use Rattle.region_root.specs.declared.root.Holding.{Holding};
 ghost use Rattle.region_root.specs.Layout.{place, IsPacked, KeepsRoots};
 ghost use Rattle.region_root.specs.Maps.{Acts};
@@ -153,7 +153,7 @@ fn act_on_flags<H: Wait, const W: u32, const F: u32>(
     doing: Doing,
 ) -> u64
     requires rest { AtRest (compact W F) table.now pass.old }
-    requires named { (vector : Vector) × (name_of (view pass.old).seen vector ≡ Some id) }
+    requires named { KnowsName pass.old id }
     requires bit { HasFlag table.now.about.flags doing }
     ensures { RootActed (compact W F) table.now (act_on doing result) id pass.old pass.new }
 {
@@ -172,7 +172,7 @@ pub fn set_flag<H: Wait, const W: u32, const F: u32>(
     b: u32,
 ) -> bool
     requires rest { AtRest (compact W F) nodes.now pass.old }
-    requires named { (vector : Vector) × (name_of (view pass.old).seen vector ≡ Some id) }
+    requires named { KnowsName pass.old id }
     requires bit { b < nodes.now.about.flags }
     ensures { RootActed (compact W F) nodes.now (Set b result) id pass.old pass.new }
 {
@@ -190,7 +190,7 @@ pub fn clear_flag<H: Wait, const W: u32, const F: u32>(
     b: u32,
 ) -> bool
     requires rest { AtRest (compact W F) nodes.now pass.old }
-    requires named { (vector : Vector) × (name_of (view pass.old).seen vector ≡ Some id) }
+    requires named { KnowsName pass.old id }
     requires bit { b < nodes.now.about.flags }
     ensures { RootActed (compact W F) nodes.now (Clear b result) id pass.old pass.new }
 {
@@ -207,7 +207,7 @@ pub fn flags<H: Wait, const W: u32, const F: u32>(
     id: u64,
 ) -> u64
     requires rest { AtRest (compact W F) nodes.now pass.old }
-    requires named { (vector : Vector) × (name_of (view pass.old).seen vector ≡ Some id) }
+    requires named { KnowsName pass.old id }
     ensures { RootActed (compact W F) nodes.now (Look result) id pass.old pass.new }
 {
     act_on_flags(rt, nodes.table(), pass, id, Doing::Look)

@@ -4,10 +4,9 @@ ghost use Rattle.std.specs.Prelude.{◌≡◌, ℕ, ◌*◌, ◌^◌, ◌<◌, �
 ghost use Rattle.std.specs.Prelude.{option_map, is_some, false};
 ghost use Rattle.packed_word.specs.Word.{pair_of};
 ghost use Rattle.tdb_base.specs.Fakes.{counted};
-ghost use Rattle.tdb_base.specs.History.{Vector, name_of};
 ghost use Rattle.pair_nodes.specs.Roots.{RootPut, RootRefused, RootUnseen, RootFound, RootUnknown, RootRead};
 ghost use Rattle.pair_nodes.specs.Roots.{IsUnlooked, ticked_if};
-ghost use Rattle.pair_rule.specs.Rest.{AtRest, view};
+ghost use Rattle.pair_rule.specs.Rest.{AtRest, view, KnowsName};
 ghost use Rattle.pair_rule.specs.Calls.{IsSomeRoot};
 ghost use Rattle.region_root.specs.Compact.{compact};
 
@@ -46,7 +45,7 @@ impl<'a, H, const W: u32, const F: u32> RootNames<W, F> for CompactTable<'a, H, 
 
     fn read(&self, pass: &mut Pass<CompactRoot<W, F>, W, F>, id: u64) -> (u64, u64)
         requires rest { AtRest (compact W F) self.now.nodes.now pass.old }
-        requires named { (vector : Vector) × (name_of (view pass.old).seen vector ≡ Some id) }
+        requires named { KnowsName pass.old id }
         ensures read { RootRead (compact W F) self.now.nodes.now id result pass.old pass.new }
         ensures no_look { IsUnlooked (compact W F) (view pass.old).root (view pass.new).root }
     {

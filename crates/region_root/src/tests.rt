@@ -2,10 +2,9 @@
 //! first slot.
 ghost use Rattle.std.specs.Prelude.{◌≡◌, ◌^◌, ◌<◌, ◌≤◌, IfOk, IfSome, Some};
 ghost use Rattle.tree_shape.specs.Tree.{Has};
-ghost use Rattle.tdb_base.specs.History.{Vector, name_of};
 ghost use Rattle.pair_rule.specs.Calls.{IsSomeRoot};
 ghost use Rattle.packed_word.specs.Word.{pair_of};
-ghost use Rattle.pair_rule.specs.Rest.{AtRest, view};
+ghost use Rattle.pair_rule.specs.Rest.{AtRest, view, KnowsName};
 ghost use Rattle.region_root.specs.Compact.{compact};
 
 mod crowd;
@@ -76,7 +75,7 @@ pub(crate) fn put<H: Wait, L: Ledger>(
     requires slot { slot < 2 ^ 16 }
     ensures rest { AtRest (compact 16 8) store.now pass.new }
     ensures named { IfSome result
-        (λ a. (vector : Vector) × (name_of (view pass.new).seen vector ≡ Some a.0)) }
+        (λ a. KnowsName pass.new a.0) }
 {
     let node = zeros(store, pass)?;
     match put_root(rt, store, pass, node, slot, steps) {
@@ -163,9 +162,9 @@ pub(crate) fn turn<H: Wait>(
 ) -> bool
     requires flags { (store.now.about.flags ≡ 8) × (b < 8) }
     requires rest { AtRest (compact 16 8) store.now pass.old }
-    requires named { (vector : Vector) × (name_of (view pass.old).seen vector ≡ Some id) }
+    requires named { KnowsName pass.old id }
     ensures rest { AtRest (compact 16 8) store.now pass.new }
-    ensures named { (vector : Vector) × (name_of (view pass.new).seen vector ≡ Some id) }
+    ensures named { KnowsName pass.new id }
 {
     if set {
         return set_flag(rt, store, pass, id, b);
@@ -176,9 +175,9 @@ pub(crate) fn turn<H: Wait>(
 // The flags.
 fn read<H: Wait>(rt: &H, store: &Store, pass: &mut StorePass, id: u64) -> u64
     requires rest { AtRest (compact 16 8) store.now pass.old }
-    requires named { (vector : Vector) × (name_of (view pass.old).seen vector ≡ Some id) }
+    requires named { KnowsName pass.old id }
     ensures rest { AtRest (compact 16 8) store.now pass.new }
-    ensures named { (vector : Vector) × (name_of (view pass.new).seen vector ≡ Some id) }
+    ensures named { KnowsName pass.new id }
 {
     flags(rt, store, pass, id)
 }
@@ -187,7 +186,7 @@ fn read<H: Wait>(rt: &H, store: &Store, pass: &mut StorePass, id: u64) -> u64
 fn turns_flags<H: Wait + Abort>(rt: &H, store: &Store, pass: &mut StorePass, id: u64)
     requires flags { store.now.about.flags ≡ 8 }
     requires rest { AtRest (compact 16 8) store.now pass.old }
-    requires named { (vector : Vector) × (name_of (view pass.old).seen vector ≡ Some id) }
+    requires named { KnowsName pass.old id }
     ensures rest { AtRest (compact 16 8) store.now pass.new }
 {
     let set_first = turn(rt, store, pass, id, 3, true);

@@ -1,5 +1,5 @@
 -- An entry that gives no name: it changes no name, and leaves its vector's flags as its act says.
-use Rattle.std.proofs.Common.{◌≡◌, ℕ, List, [], ◌∷◌, ◌++◌, Option, Some, false, refl, sym, ap, ◌∙◌}
+use Rattle.std.proofs.Common.{◌≡◌, ℕ, List, [], ◌∷◌, ◌++◌, Option, false, refl, sym, ap, ◌∙◌}
 use Rattle.tdb_base.specs.History.{Vector, Entry, History, is_fresh, name_of, flags_of, flags_after}
 use Rattle.tdb_base.proofs.NameLemmas.{name-push, same-refl}
 use Rattle.pair_rule.specs.declared.sizes.About.{About}

@@ -1,5 +1,5 @@
 -- Passes that set, cleared or read the flags in a named vector's root word.
-use Rattle.std.proofs.Common.{◌≡◌, ℕ, ◌+◌, ◌-◌, ◌*◌, ◌^◌, ◌<◌, [], ◌∷◌, not, Some, bit_and, bit_or, sym, ap, ◌∙◌, subst}
+use Rattle.std.proofs.Common.{◌≡◌, ℕ, ◌+◌, ◌-◌, ◌*◌, ◌^◌, ◌<◌, not, Some, bit_and, bit_or, sym, ap, ◌∙◌, subst}
 use mathlib.Core.Option.{none}
 use Rattle.std.specs.Int.{bit_not, w64}
 use Rattle.atomic_table.specs.Table.{step, Allows}

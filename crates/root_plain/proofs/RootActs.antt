@@ -1,12 +1,11 @@
 -- A step on the root word of a named vector that changes nothing there but flags, and calls on the vector.
-use Rattle.std.proofs.Common.{◌≡◌, ◌≢◌, ℕ, suc, ◌+◌, ◌^◌, ◌<◌, List, [], ◌∷◌, ◌++◌, length, set, get_or, Bool, true, false, Option, Some, refl, sym, ap, ◌∙◌, subst, ⊎_elim, arith, length-set, get_or-set_same, get_or-set_other}
+use Rattle.std.proofs.Common.{◌≡◌, ◌≢◌, ℕ, suc, ◌+◌, ◌^◌, ◌<◌, List, [], ◌∷◌, ◌++◌, length, set, get_or, Bool, true, false, Some, refl, sym, ap, ◌∙◌, subst, ⊎_elim, arith, length-set, get_or-set_same, get_or-set_other}
 use mathlib.Core.Option.{some}
 use mathlib.Core.Logic.{dite}
 use native.Mathlib.Decide.{ℕ_discrete}
 use lib.ListN.{get_elem?}
 use Rattle.atomic_table.specs.Table.{State}
-use Rattle.tree_shape.specs.Tree.{Has}
-use Rattle.tdb_base.specs.History.{Vector, Act, Entry, History, is_fresh, same, name_of, flags_of, flags_after}
+use Rattle.tdb_base.specs.History.{Vector, Act, Entry, History, is_fresh, same, name_of, flags_after}
 use Rattle.tdb_base.specs.Legal.{IsLegal, Allows}
 use Rattle.tdb_base.proofs.NameLemmas.{same-equal, same-refl, names-differ, legal-push}
 use Rattle.packed_word.specs.Word.{word_of}

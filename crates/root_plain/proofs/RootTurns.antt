@@ -1,5 +1,5 @@
 -- Steps on the flags in a named vector's root word, as the table's rule allows them.
-use Rattle.std.proofs.Common.{◌≡◌, ℕ, ◌+◌, ◌-◌, ◌*◌, ◌^◌, ◌/◌, ◌<◌, List, [], ◌∷◌, ◌++◌, set, get_or, Bool, true, false, not, Some, bit_and, bit_or, refl, sym, ap, ◌∙◌, subst, arith}
+use Rattle.std.proofs.Common.{◌≡◌, ℕ, ◌+◌, ◌-◌, ◌*◌, ◌^◌, ◌<◌, [], ◌∷◌, set, get_or, true, false, not, Some, bit_and, bit_or, refl, sym, ap, ◌∙◌, subst, arith}
 use mathlib.Core.Option.{none, some}
 use Rattle.std.specs.Int.{bit_not, w64}
 use Rattle.std.proofs.lemmas.Nat.{pow_below, or_lt}
@@ -9,7 +9,7 @@ use Rattle.tdb_base.specs.History.{Vector, History, Act, Set, Clear, Look, has_b
 use Rattle.tdb_base.specs.Legal.{Extends}
 use Rattle.tdb_base.specs.Legal as legal
 use Rattle.tdb_base.proofs.NameLemmas.{keeps-names, names-differ}
-use Rattle.packed_word.specs.Word.{IsLayout, flag_bits, word_of}
+use Rattle.packed_word.specs.Word.{flag_bits, word_of}
 use Rattle.packed_word.proofs.Numbers.{has_parts, sets_flag_of, clears_flag_of}
 use Rattle.pair_rule.specs.declared.view.View.{View}
 use Rattle.pair_rule.specs.declared.sizes.About.{About}

@@ -1,8 +1,7 @@
 //! A name's root is found by its identifier.
 ghost use Rattle.std.specs.Prelude.{◌≡◌, ◌^◌, ◌<◌, ◌≤◌, ◌↔◌, IsTrue, Some, MatchOption};
-ghost use Rattle.tdb_base.specs.History.{Vector, name_of};
 ghost use Rattle.pair_nodes.specs.Roots.{RootFound, RootUnknown, RootRead};
-ghost use Rattle.pair_rule.specs.Rest.{AtRest, view};
+ghost use Rattle.pair_rule.specs.Rest.{AtRest, KnowsName};
 ghost use Rattle.root_plain.specs.Plain.{plain};
 
 use crate::plays::Wanted;
@@ -55,7 +54,7 @@ pub fn root_pair<const W: u32, const F: u32>(
     id: u64,
 ) -> (u64, u64)
     requires rest { AtRest plain nodes.now pass.old }
-    requires named { (vector : Vector) × (name_of (view pass.old).seen vector ≡ Some id) }
+    requires named { KnowsName pass.old id }
     ensures { RootRead plain nodes.now id result pass.old pass.new }
 {
     let word = look(nodes.table(), pass, id, &Wanted::Nothing);

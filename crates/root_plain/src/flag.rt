@@ -1,11 +1,11 @@
 //! The flags of a named vector: each is set, cleared or read by one atomic step on the root's word.
-ghost use Rattle.std.specs.Prelude.{◌≡◌, ◌<◌, Some};
+ghost use Rattle.std.specs.Prelude.{◌≡◌, ◌<◌};
 ghost use Rattle.packed_word.specs.Word.{IsLayout};
 ghost use Rattle.pair_nodes.specs.Roots.{RootActed};
-ghost use Rattle.pair_rule.specs.Rest.{AtRest, view};
+ghost use Rattle.pair_rule.specs.Rest.{AtRest, KnowsName};
 ghost use Rattle.root_plain.specs.Plain.{plain};
 ghost use Rattle.root_plain.specs.Plays.{flag_in};
-ghost use Rattle.tdb_base.specs.History.{Vector, Set, Clear, Look, name_of};
+ghost use Rattle.tdb_base.specs.History.{Set, Clear, Look};
 
 use crate::flag_steps::{clear_in_word, read_word, set_in_word};
 use crate::root::PlainRoot;
@@ -33,7 +33,7 @@ pub fn set_flag<const W: u32, const F: u32>(
     b: u32,
 ) -> bool
     requires rest { AtRest plain nodes.now pass.old }
-    requires named { (vector : Vector) × (name_of (view pass.old).seen vector ≡ Some id) }
+    requires named { KnowsName pass.old id }
     requires bit { b < nodes.now.about.flags }
     ensures { RootActed plain nodes.now (Set b result) id pass.old pass.new }
 {
@@ -50,7 +50,7 @@ pub fn clear_flag<const W: u32, const F: u32>(
     b: u32,
 ) -> bool
     requires rest { AtRest plain nodes.now pass.old }
-    requires named { (vector : Vector) × (name_of (view pass.old).seen vector ≡ Some id) }
+    requires named { KnowsName pass.old id }
     requires bit { b < nodes.now.about.flags }
     ensures { RootActed plain nodes.now (Clear b result) id pass.old pass.new }
 {
@@ -66,7 +66,7 @@ pub fn flags<const W: u32, const F: u32>(
     id: u64,
 ) -> u64
     requires rest { AtRest plain nodes.now pass.old }
-    requires named { (vector : Vector) × (name_of (view pass.old).seen vector ≡ Some id) }
+    requires named { KnowsName pass.old id }
     ensures { RootActed plain nodes.now (Look result) id pass.old pass.new }
 {
     let word = read_word(nodes.table(), pass, id);

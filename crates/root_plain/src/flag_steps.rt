@@ -1,11 +1,11 @@
 //! The atomic steps on the flags in a named root's word, one function each.
-ghost use Rattle.std.specs.Prelude.{◌≡◌, ◌<◌, not, Some};
+ghost use Rattle.std.specs.Prelude.{◌≡◌, ◌<◌, not};
 ghost use Rattle.packed_word.specs.Word.{flag_bits};
 ghost use Rattle.pair_rule.specs.Paths.{root_buckets, size};
-ghost use Rattle.pair_rule.specs.Rest.{AtRest, view};
+ghost use Rattle.pair_rule.specs.Rest.{AtRest, view, KnowsName};
 ghost use Rattle.root_plain.specs.Plain.{plain};
 ghost use Rattle.root_plain.specs.Plays.{DoesTo, flag_in};
-ghost use Rattle.tdb_base.specs.History.{Vector, Set, Clear, Look, name_of};
+ghost use Rattle.tdb_base.specs.History.{Set, Clear, Look};
 
 use crate::plays::{ClearingFlag, ReadingFlags, SettingFlag};
 use crate::root::PlainRoot;
@@ -23,7 +23,7 @@ pub(crate) fn set_in_word<const W: u32, const F: u32>(
 ) -> u64
     requires rest { AtRest plain table.now pass.old }
     requires inside { at < size (root_buckets table.now.about) }
-    requires named { (vector : Vector) × (name_of (view pass.old).seen vector ≡ Some at) }
+    requires named { KnowsName pass.old at }
     requires bit { b < F }
     ensures rest { AtRest plain table.now pass.new }
     ensures told { DoesTo (Set b (not (flag_in W F result b))) at (view pass.old) (view pass.new) }
@@ -46,7 +46,7 @@ pub(crate) fn clear_in_word<const W: u32, const F: u32>(
 ) -> u64
     requires rest { AtRest plain table.now pass.old }
     requires inside { at < size (root_buckets table.now.about) }
-    requires named { (vector : Vector) × (name_of (view pass.old).seen vector ≡ Some at) }
+    requires named { KnowsName pass.old at }
     requires bit { b < F }
     ensures rest { AtRest plain table.now pass.new }
     ensures told { DoesTo (Clear b (flag_in W F result b)) at (view pass.old) (view pass.new) }
@@ -68,7 +68,7 @@ pub(crate) fn read_word<const W: u32, const F: u32>(
 ) -> u64
     requires rest { AtRest plain table.now pass.old }
     requires inside { at < size (root_buckets table.now.about) }
-    requires named { (vector : Vector) × (name_of (view pass.old).seen vector ≡ Some at) }
+    requires named { KnowsName pass.old at }
     ensures rest { AtRest plain table.now pass.new }
     ensures told { DoesTo (Look (flag_bits W F result)) at (view pass.old) (view pass.new) }
     ensures tree { pass.new ≡ record pass.old { seat = pass.new.seat } }

@@ -1,12 +1,11 @@
 //! Plain roots as a store uses them: nobody waits.
-ghost use Rattle.std.specs.Prelude.{◌≡◌, ℕ, ◌*◌, ◌^◌, ◌<◌, ◌≤◌, IfOk, OnErr, MatchOption, Some};
+ghost use Rattle.std.specs.Prelude.{◌≡◌, ℕ, ◌*◌, ◌^◌, ◌<◌, ◌≤◌, IfOk, OnErr, MatchOption};
 ghost use Rattle.std.specs.Prelude.{option_map, is_some, false};
 ghost use Rattle.packed_word.specs.Word.{pair_of};
 ghost use Rattle.tdb_base.specs.Fakes.{counted};
-ghost use Rattle.tdb_base.specs.History.{Vector, name_of};
 ghost use Rattle.pair_nodes.specs.Roots.{RootPut, RootRefused, RootUnseen, RootFound, RootUnknown, RootRead};
 ghost use Rattle.pair_nodes.specs.Roots.{IsUnlooked, ticked_if};
-ghost use Rattle.pair_rule.specs.Rest.{AtRest, view};
+ghost use Rattle.pair_rule.specs.Rest.{AtRest, view, KnowsName};
 ghost use Rattle.pair_rule.specs.Calls.{IsSomeRoot};
 ghost use Rattle.root_plain.specs.Plain.{plain};
 
@@ -41,7 +40,7 @@ impl<'a, const W: u32, const F: u32> RootNames<W, F> for PlainTable<'a, W, F> {
 
     fn read(&self, pass: &mut Pass<PlainRoot<W, F>, W, F>, id: u64) -> (u64, u64)
         requires rest { AtRest plain self.now.nodes.now pass.old }
-        requires named { (vector : Vector) × (name_of (view pass.old).seen vector ≡ Some id) }
+        requires named { KnowsName pass.old id }
         ensures read { RootRead plain self.now.nodes.now id result pass.old pass.new }
         ensures no_look { IsUnlooked plain (view pass.old).root (view pass.new).root }
     {

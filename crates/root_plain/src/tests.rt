@@ -1,7 +1,6 @@
 //! Stores of two slots, whose roots are the vectors themselves, with buckets of hashes computed by hand.
 ghost use Rattle.std.specs.Prelude.{◌≡◌, ◌^◌, ◌<◌, ◌≤◌, IfOk, MatchOption, Some};
-ghost use Rattle.tdb_base.specs.History.{Vector, name_of};
-ghost use Rattle.pair_rule.specs.Rest.{AtRest, view};
+ghost use Rattle.pair_rule.specs.Rest.{AtRest, KnowsName};
 ghost use Rattle.root_plain.specs.Plain.{plain};
 
 mod crowd;
@@ -52,7 +51,7 @@ pub(crate) fn put<L: Ledger>(
     requires parts { (left < 2 ^ 16) × (right < 2 ^ 16) }
     ensures rest { AtRest plain store.now pass.new }
     ensures named { MatchOption result (Unit {0})
-        (λ a. (vector : Vector) × (name_of (view pass.new).seen vector ≡ Some a.0)) }
+        (λ a. KnowsName pass.new a.0) }
 {
     match put_root(store, pass, left, right, steps) {
         Ok(found) => Some(found),

@@ -1,10 +1,13 @@
 //! The store at work: a page of code that searches the states of a small protocol, to be copied.
 #![tactic(auto)]
 
+mod path;
 mod peterson;
 mod search;
 mod together;
 
+pub use path::path_to_error;
+pub use peterson::{Protocol, State};
 pub use search::{Found, SearchError, search_peterson};
 pub use together::search_together;
 

@@ -1,10 +1,9 @@
 //! A search of all states, which are kept in a plain store; what is still to be expanded are identifiers.
 ghost use Rattle.std.specs.Prelude.{◌≡◌, ◌<◌, ℕ, All, IfOk};
-ghost use Rattle.pair_rule.specs.Rest.{AtRest, view, names_of_callers};
+ghost use Rattle.pair_rule.specs.Rest.{AtRest, view, names_of_callers, KnowsName};
 ghost use Rattle.root_plain.specs.Plain.{plain};
-ghost use Rattle.store_uses.specs.Known.{IsKnown};
 
-use crate::peterson::{START, State, both_critical, step};
+use crate::peterson::{Protocol, START, State, both_critical, step};
 use pair_rule::Sizes;
 use std::alloc::{AllocError, Global};
 use tdb_base::{Reply, Silent, Steps};
@@ -26,7 +25,7 @@ const MOST: u64 = 1_000_000;
 #[derive(Clone, Copy, Debug, PartialEq, Eq, Drop, Error)]
 pub enum SearchError {
     /// There is no store of these sizes, or no memory for it.
-    #[error("no store: {0:?}")]
+    #[error("no store: {0}")]
     Create(CreateError),
     /// A state has other slots than the store, or a slot is too large for it.
     #[error("a state does not fit the store")]
@@ -55,8 +54,8 @@ pub struct Found {
 pub(crate) fn insert(store: &Store, pass: &mut Pass, state: &[u32]) -> Result<u64, SearchError>
     requires rest { AtRest plain store.now pass.old }
     ensures rest { AtRest plain store.now pass.new }
-    ensures known { IfOk result (IsKnown pass.new) }
-    ensures stay { (id : ℕ) → IsKnown pass.old id → IsKnown pass.new id }
+    ensures known { IfOk result (KnowsName pass.new) }
+    ensures stay { (id : ℕ) → KnowsName pass.old id → KnowsName pass.new id }
 {
     if !store.fits(state) {
         return Err(SearchError::Unfit);
@@ -77,11 +76,11 @@ fn follow(
 ) -> Result<(), SearchError>
     requires process { me < 2 }
     requires rest { AtRest plain store.now pass.old }
-    requires frontier { All (IsKnown pass.old) frontier.old.items }
+    requires frontier { All (KnowsName pass.old) frontier.old.items }
     ensures rest { AtRest plain store.now pass.new }
-    ensures frontier { IfOk result (λ done. All (IsKnown pass.new) frontier.new.items) }
+    ensures frontier { IfOk result (λ done. All (KnowsName pass.new) frontier.new.items) }
 {
-    let Some(next) = step(state, me) else {
+    let Some(next) = step(Protocol::Peterson, state, me) else {
         return Ok(());
     };
     let id = insert(store, pass, &next)?;
@@ -99,10 +98,10 @@ fn expand(
 ) -> Result<bool, SearchError>
     requires sizes { (store.now.about.slots ≡ 5) × (store.now.about.flags ≡ 7) }
     requires rest { AtRest plain store.now pass.old }
-    requires known { IsKnown pass.old id }
-    requires frontier { All (IsKnown pass.old) frontier.old.items }
+    requires known { KnowsName pass.old id }
+    requires frontier { All (KnowsName pass.old) frontier.old.items }
     ensures rest { AtRest plain store.now pass.new }
-    ensures frontier { IfOk result (λ done. All (IsKnown pass.new) frontier.new.items) }
+    ensures frontier { IfOk result (λ done. All (KnowsName pass.new) frontier.new.items) }
 {
     if !store.set_flag(pass, id, EXPANDED) {
         return Ok(false);
@@ -123,7 +122,7 @@ pub(crate) fn expand_all(
 ) -> Result<bool, SearchError>
     requires sizes { (store.now.about.slots ≡ 5) × (store.now.about.flags ≡ 7) }
     requires rest { AtRest plain store.now pass.old }
-    requires frontier { All (IsKnown pass.old) frontier.old.items }
+    requires frontier { All (KnowsName pass.old) frontier.old.items }
     ensures rest { AtRest plain store.now pass.new }
 {
     let mut both = false;

@@ -1,9 +1,9 @@
 //! The same search by two threads, each with a pass and a frontier of its own: whoever sets a state's flag
 //! first expands it.
 ghost use Rattle.std.specs.Prelude.{◌≡◌, All, IfOk};
-ghost use Rattle.pair_rule.specs.Rest.{AtRest};
+ghost use Rattle.pair_rule.specs.Rest.{AtRest, KnowsName};
 ghost use Rattle.root_plain.specs.Plain.{plain};
-ghost use Rattle.store_uses.specs.Known.{IsKnown, IsReady};
+ghost use Rattle.store_uses.specs.Known.{IsReady};
 
 use crate::peterson::START;
 use crate::search::{Found, Pass, SearchError, Store, create, expand_all, insert};
@@ -21,9 +21,9 @@ struct Worker {
 
 // A worker that begins with the state that has this identifier.
 fn begin_with(alloc: Global, pass: Pass, id: u64) -> Result<Worker, SearchError>
-    requires known { IsKnown pass id }
+    requires known { KnowsName pass id }
     ensures pass { IfOk result (λ worker. worker.pass ≡ pass) }
-    ensures frontier { IfOk result (λ worker. All (IsKnown pass) worker.frontier.items) }
+    ensures frontier { IfOk result (λ worker. All (KnowsName pass) worker.frontier.items) }
 {
     let mut frontier = Vec::new(alloc);
     frontier.push(id)?;

@@ -7,15 +7,19 @@ ghost use Rattle.trace_csv.specs.Input.{ReadsWithin, limit};
 
 use std::alloc::{AllocError, Global};
 use tdb_base::Source;
+use thiserror::Error;
 
 /// Why an input was not read to its end.
-#[derive(Clone, Copy, Debug, PartialEq, Eq)]
+#[derive(Clone, Copy, Debug, PartialEq, Eq, Drop, Error)]
 pub enum InError {
     /// The source failed.
+    #[error("a read failed")]
     ReadFault,
     /// The source gave more than 67,108,864 bytes.
+    #[error("input is over 67108864 bytes")]
     TooMuch,
     /// Memory ran out.
+    #[error("no memory")]
     NoMemory,
 }
 

@@ -5,9 +5,11 @@ ghost use Rattle.tdb_base.specs.Causes.{HasCause};
 ghost use Rattle.trace_csv.specs.Output.{TakesFront};
 
 use tdb_base::Sink;
+use thiserror::Error;
 
 /// The sink failed.
-#[derive(Clone, Copy, Debug, PartialEq, Eq)]
+#[derive(Clone, Copy, Debug, PartialEq, Eq, Drop, Error)]
+#[error("a write failed")]
 pub struct WriteFault;
 
 // The whole piece, in as many writes as the sink needs.

@@ -1,7 +1,7 @@
 //! Inputs, drawn traces and texts, with values from outside.
 
 use crate::{
-    InError, Stats, Summary, WriteFault, generate, read_all, write_drawn, write_marks,
+    InError, Stats, Summary, TraceError, WriteFault, generate, read_all, write_drawn, write_marks,
     write_report, write_signed, write_summary, write_vectors,
 };
 use std::alloc::Global;
@@ -196,5 +196,32 @@ fn long_texts_are_written_in_pages(rt: HostRuntime) -> Result<(), Fail> {
     let mut sink = MemSink::new(alloc, 40000, Vec::new(alloc), 40000)?;
     assert!(rt; write_vectors(1024, &flat, &[0, 0, 0], &mut sink).is_ok());
     assert_eq!(rt; sink.bytes(), text.as_slice());
+    Ok(())
+}
+
+#[test]
+fn errors_tell_what_is_wrong(rt: HostRuntime) -> Result<(), Fail> {
+    let alloc = rt.alloc();
+    assert!(rt;
+        TraceError::NotANumber(3, 2).to_string(alloc)?.as_str()
+            == "record 3 field 2 is not a number"
+    );
+    assert!(rt;
+        TraceError::TooBig(1, 2).to_string(alloc)?.as_str() == "record 1 field 2 is too big"
+    );
+    assert!(rt;
+        TraceError::Ragged(2, 1, 4).to_string(alloc)?.as_str()
+            == "record 2 has 1 fields, the first has 4"
+    );
+    assert!(rt;
+        TraceError::Length(1, 7).to_string(alloc)?.as_str()
+            == "record 1 has 7 fields, too few or too many"
+    );
+    assert!(rt; TraceError::NoRecords.to_string(alloc)?.as_str() == "no records");
+    assert!(rt; TraceError::NoMemory.to_string(alloc)?.as_str() == "no memory");
+    assert!(rt; InError::ReadFault.to_string(alloc)?.as_str() == "a read failed");
+    assert!(rt; InError::TooMuch.to_string(alloc)?.as_str() == "input is over 67108864 bytes");
+    assert!(rt; WriteFault.to_string(alloc)?.as_str() == "a write failed");
+    assert!(rt; InError::NoMemory.to_string(alloc)?.as_str() == "no memory");
     Ok(())
 }

@@ -14,6 +14,7 @@ mod marking;
 use comparing::next_difference;
 use marking::{clear, mark_above};
 use std::marker::Model;
+use thiserror::Error;
 
 /// The tree of pairs that keeps a vector is balanced. The positions of a tree of `k` slots are numbered from
 /// 1 to `2k - 1`: position 1 is the root, the pair at a position `p` below `k` has its left part from
@@ -36,11 +37,13 @@ impl Model for Shape {
 }
 
 /// Why there is no shape of so many slots.
-#[derive(Clone, Copy, Debug, PartialEq, Eq)]
+#[derive(Clone, Copy, Debug, PartialEq, Eq, Drop, Error)]
 pub enum ShapeError {
     /// Fewer than 2 slots.
+    #[error("{0} slots are too few, 2 to 1024 are allowed")]
     TooShort(usize),
     /// More than 1024 slots.
+    #[error("{0} slots are too many, 2 to 1024 are allowed")]
     TooLong(usize),
 }
 

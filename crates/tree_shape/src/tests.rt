@@ -115,3 +115,17 @@ fn shapes_and_marks(rt: HostRuntime) -> Result<(), Fail> {
     }
     Ok(())
 }
+
+#[test]
+fn errors_tell_what_is_wrong(rt: HostRuntime) -> Result<(), Fail> {
+    let alloc = rt.alloc();
+    assert!(rt;
+        ShapeError::TooShort(1).to_string(alloc)?.as_str()
+            == "1 slots are too few, 2 to 1024 are allowed"
+    );
+    assert!(rt;
+        ShapeError::TooLong(1025).to_string(alloc)?.as_str()
+            == "1025 slots are too many, 2 to 1024 are allowed"
+    );
+    Ok(())
+}

@@ -1,8 +1,8 @@
 //! A compact store: the calls on any store, with its roots in cells of regions.
-ghost use Rattle.std.specs.Prelude.{◌≡◌, ℕ, ◌+◌, ◌*◌, ◌<◌, None, Some, length};
-ghost use Rattle.tdb_base.specs.History.{Vector, Set, Clear, Look, name_of};
+ghost use Rattle.std.specs.Prelude.{◌≡◌, ℕ, ◌+◌, ◌*◌, ◌<◌, None, length};
+ghost use Rattle.tdb_base.specs.History.{Set, Clear, Look};
 ghost use Rattle.pair_nodes.specs.Roots.{RootActed};
-ghost use Rattle.pair_rule.specs.Rest.{AtRest, names_of_callers, view, last_vector};
+ghost use Rattle.pair_rule.specs.Rest.{AtRest, names_of_callers, view, last_vector, KnowsName};
 ghost use Rattle.region_root.specs.Compact.{compact};
 ghost use Rattle.tree_store.specs.Vectors.{IsVector, puts_after};
 ghost use Rattle.tree_store.specs.Store.{IsAnswered, AreTicked};
@@ -85,7 +85,7 @@ impl<const W: u32, const F: u32> TreeStore<CompactRoot<W, F>, W, F> {
     /// As `read` of a plain store. It waits for nobody: the root's parts are the identifier's own.
     pub fn read(&self, pass: &mut CompactPass<W, F>, id: u64, out: &mut [u32])
         requires rest { AtRest (compact W F) self.now pass.old }
-        requires named { (vector : Vector) × (name_of (view pass.old).seen vector ≡ Some id) }
+        requires named { KnowsName pass.old id }
         requires out { length out.old ≡ self.now.about.slots }
         ensures rest { AtRest (compact W F) self.now pass.new }
         ensures read { IsRead (compact W F) id out.new pass.old pass.new }
@@ -132,7 +132,7 @@ impl<const W: u32, const F: u32> TreeStore<CompactRoot<W, F>, W, F> {
     /// As `set_flag` of a plain store, but it waits for the lock of the root's region, which it takes once.
     pub fn set_flag<H: Wait>(&self, rt: &H, pass: &mut CompactPass<W, F>, id: u64, b: u32) -> bool
         requires rest { AtRest (compact W F) self.now pass.old }
-        requires named { (vector : Vector) × (name_of (view pass.old).seen vector ≡ Some id) }
+        requires named { KnowsName pass.old id }
         requires bit { b < self.now.about.flags }
         ensures { RootActed (compact W F) self.now (Set b result) id pass.old pass.new }
     {
@@ -142,7 +142,7 @@ impl<const W: u32, const F: u32> TreeStore<CompactRoot<W, F>, W, F> {
     /// As `clear_flag` of a plain store, in the same way.
     pub fn clear_flag<H: Wait>(&self, rt: &H, pass: &mut CompactPass<W, F>, id: u64, b: u32) -> bool
         requires rest { AtRest (compact W F) self.now pass.old }
-        requires named { (vector : Vector) × (name_of (view pass.old).seen vector ≡ Some id) }
+        requires named { KnowsName pass.old id }
         requires bit { b < self.now.about.flags }
         ensures { RootActed (compact W F) self.now (Clear b result) id pass.old pass.new }
     {
@@ -152,7 +152,7 @@ impl<const W: u32, const F: u32> TreeStore<CompactRoot<W, F>, W, F> {
     /// As `flags` of a plain store, in the same way.
     pub fn flags<H: Wait>(&self, rt: &H, pass: &mut CompactPass<W, F>, id: u64) -> u64
         requires rest { AtRest (compact W F) self.now pass.old }
-        requires named { (vector : Vector) × (name_of (view pass.old).seen vector ≡ Some id) }
+        requires named { KnowsName pass.old id }
         ensures { RootActed (compact W F) self.now (Look result) id pass.old pass.new }
     {
         region_root::flags(rt, self.nodes(), pass, id)

@@ -10,15 +10,18 @@ use crate::store::TreeStore;
 use pair_nodes::Nodes;
 use pair_rule::{PairTable, Pass, RootPart, Sizes};
 use std::alloc::Global;
+use thiserror::Error;
 use tree_shape::Shape;
 
 /// Why there is no such store.
-#[derive(Clone, Copy, Debug, PartialEq, Eq)]
+#[derive(Clone, Copy, Debug, PartialEq, Eq, Drop, Error)]
 pub enum CreateError {
     /// A size is out of its range, the first of: 1 the nodes, 2 the roots, 3 a region of compact roots, 4 the
     /// lines of a path.
+    #[error("size {0} is out of range, of nodes, roots, region and probe")]
     Sizes(u32),
     /// Memory ran out.
+    #[error("no memory")]
     NoMemory,
 }
 

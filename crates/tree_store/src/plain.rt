@@ -1,8 +1,8 @@
 //! A plain store: the calls on any store, with its roots in a plain table.
-ghost use Rattle.std.specs.Prelude.{◌≡◌, ℕ, ◌+◌, ◌*◌, ◌<◌, None, Some, length};
-ghost use Rattle.tdb_base.specs.History.{Vector, Set, Clear, Look, name_of};
+ghost use Rattle.std.specs.Prelude.{◌≡◌, ℕ, ◌+◌, ◌*◌, ◌<◌, None, length};
+ghost use Rattle.tdb_base.specs.History.{Set, Clear, Look};
 ghost use Rattle.pair_nodes.specs.Roots.{RootActed};
-ghost use Rattle.pair_rule.specs.Rest.{AtRest, names_of_callers, view, last_vector};
+ghost use Rattle.pair_rule.specs.Rest.{AtRest, names_of_callers, view, last_vector, KnowsName};
 ghost use Rattle.root_plain.specs.Plain.{plain};
 ghost use Rattle.tree_store.specs.Vectors.{IsVector, puts_after};
 ghost use Rattle.tree_store.specs.Store.{IsAnswered, AreTicked};
@@ -83,7 +83,7 @@ impl<const W: u32, const F: u32> TreeStore<PlainRoot<W, F>, W, F> {
     /// It makes no call, puts no node and counts no step. It waits for nobody and takes no memory.
     pub fn read(&self, pass: &mut PlainPass<W, F>, id: u64, out: &mut [u32])
         requires rest { AtRest plain self.now pass.old }
-        requires named { (vector : Vector) × (name_of (view pass.old).seen vector ≡ Some id) }
+        requires named { KnowsName pass.old id }
         requires out { length out.old ≡ self.now.about.slots }
         ensures rest { AtRest plain self.now pass.new }
         ensures read { IsRead plain id out.new pass.old pass.new }
@@ -128,7 +128,7 @@ impl<const W: u32, const F: u32> TreeStore<PlainRoot<W, F>, W, F> {
     /// last tree stays. It waits for nobody and takes no memory.
     pub fn set_flag(&self, pass: &mut PlainPass<W, F>, id: u64, b: u32) -> bool
         requires rest { AtRest plain self.now pass.old }
-        requires named { (vector : Vector) × (name_of (view pass.old).seen vector ≡ Some id) }
+        requires named { KnowsName pass.old id }
         requires bit { b < self.now.about.flags }
         ensures { RootActed plain self.now (Set b result) id pass.old pass.new }
     {
@@ -138,7 +138,7 @@ impl<const W: u32, const F: u32> TreeStore<PlainRoot<W, F>, W, F> {
     /// Clears the flag, in the same way: whether it was set.
     pub fn clear_flag(&self, pass: &mut PlainPass<W, F>, id: u64, b: u32) -> bool
         requires rest { AtRest plain self.now pass.old }
-        requires named { (vector : Vector) × (name_of (view pass.old).seen vector ≡ Some id) }
+        requires named { KnowsName pass.old id }
         requires bit { b < self.now.about.flags }
         ensures { RootActed plain self.now (Clear b result) id pass.old pass.new }
     {
@@ -149,7 +149,7 @@ impl<const W: u32, const F: u32> TreeStore<PlainRoot<W, F>, W, F> {
     /// the number is flag `b`. It is one call of the store's history, made at one atomic step.
     pub fn flags(&self, pass: &mut PlainPass<W, F>, id: u64) -> u64
         requires rest { AtRest plain self.now pass.old }
-        requires named { (vector : Vector) × (name_of (view pass.old).seen vector ≡ Some id) }
+        requires named { KnowsName pass.old id }
         ensures { RootActed plain self.now (Look result) id pass.old pass.new }
     {
         root_plain::flags(self.nodes(), pass, id)

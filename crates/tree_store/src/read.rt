@@ -1,7 +1,6 @@
 //! Vectors are read from a store by their identifiers.
 ghost use Rattle.std.specs.Prelude.{◌≡◌, ℕ, [], ◌∷◌, Bool, true, false, Some, length};
-ghost use Rattle.tdb_base.specs.History.{Vector, name_of};
-ghost use Rattle.pair_rule.specs.Rest.{AtRest, view};
+ghost use Rattle.pair_rule.specs.Rest.{AtRest, KnowsName};
 ghost use Rattle.tree_store.specs.Reading.{IsRead, IsLookedUp};
 
 use crate::store::TreeStore;
@@ -19,7 +18,7 @@ fn read_from<N: RootNames<W, F>, const W: u32, const F: u32>(
 )
     requires names { N.store names.now ≡ nodes.now }
     requires rest { AtRest N.Part.part nodes.now pass.old }
-    requires named { (vector : Vector) × (name_of (view pass.old).seen vector ≡ Some id) }
+    requires named { KnowsName pass.old id }
     requires out { length out.old ≡ nodes.now.about.slots }
     ensures rest { AtRest N.Part.part nodes.now pass.new }
     ensures read { IsRead N.Part.part id out.new pass.old pass.new }
@@ -59,7 +58,7 @@ pub fn read_vector<N: RootNames<W, F>, const W: u32, const F: u32>(
 )
     requires names { N.store names.now ≡ store.now }
     requires rest { AtRest N.Part.part store.now pass.old }
-    requires named { (vector : Vector) × (name_of (view pass.old).seen vector ≡ Some id) }
+    requires named { KnowsName pass.old id }
     requires out { length out.old ≡ store.now.about.slots }
     ensures rest { AtRest N.Part.part store.now pass.new }
     ensures read { IsRead N.Part.part id out.new pass.old pass.new }

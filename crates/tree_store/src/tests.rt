@@ -1,9 +1,8 @@
 //! Stores of small sizes, whose answers were worked out by hand: the identifiers are buckets of hashes, and
 //! which lines are full is a matter of counting nodes and roots.
-ghost use Rattle.std.specs.Prelude.{◌≡◌, Some};
+ghost use Rattle.std.specs.Prelude.{◌≡◌};
 ghost use Rattle.packed_word.specs.Word.{IsLayout};
-ghost use Rattle.tdb_base.specs.History.{Vector, name_of};
-ghost use Rattle.pair_rule.specs.Rest.{AtRest, view};
+ghost use Rattle.pair_rule.specs.Rest.{AtRest, KnowsName};
 ghost use Rattle.root_plain.specs.Plain.{plain};
 ghost use Rattle.tree_store.specs.Store.{IfNamed};
 
@@ -74,7 +73,7 @@ fn put<L: Ledger, const W: u32, const F: u32>(
 ) -> Reply
     requires rest { AtRest plain store.now pass.old }
     ensures rest { AtRest plain store.now pass.new }
-    ensures named { IfNamed result (λ fresh id. (v : Vector) × (name_of (view pass.new).seen v ≡ Some id)) }
+    ensures named { IfNamed result (λ fresh id. KnowsName pass.new id) }
 {
     assert!(rt; store.fits(vector));
     store.insert_from(pass, vector, steps)
@@ -223,5 +222,16 @@ fn answers_full_roots(rt: HostRuntime) -> Result<(), Fail> {
         Reply::FullRoots
     );
     assert!(rt; steps.shown() == 9);
+    Ok(())
+}
+
+#[test]
+fn errors_tell_what_is_wrong(rt: HostRuntime) -> Result<(), Fail> {
+    let alloc = rt.alloc();
+    assert!(rt;
+        CreateError::Sizes(2).to_string(alloc)?.as_str()
+            == "size 2 is out of range, of nodes, roots, region and probe"
+    );
+    assert!(rt; CreateError::NoMemory.to_string(alloc)?.as_str() == "no memory");
     Ok(())
 }

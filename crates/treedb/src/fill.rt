@@ -4,7 +4,7 @@ ghost use Rattle.packed_word.specs.Word.{IsLayout};
 ghost use Rattle.pair_rule.specs.Rest.{AtRest};
 ghost use Rattle.region_root.specs.Compact.{compact};
 ghost use Rattle.root_plain.specs.Plain.{plain};
-ghost use Rattle.work_run.specs.Workers.{Unused};
+ghost use Rattle.pair_rule.specs.Callers.{Unused};
 ghost use Rattle.command_line.specs.Valid.{IsValid};
 ghost use Rattle.command_line.specs.Rules.{flag_count};
 ghost use Rattle.treedb.specs.Answered.{AreAnswered};

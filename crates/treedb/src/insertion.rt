@@ -8,7 +8,7 @@ ghost use Rattle.region_root.specs.Layout.{most};
 ghost use Rattle.root_plain.specs.Plain.{plain};
 ghost use Rattle.tree_store.specs.Vectors.{IsVector};
 ghost use Rattle.work_run.specs.Enough.{HasBucketsFor, NoRootIsFull};
-ghost use Rattle.work_run.specs.Workers.{Unused};
+ghost use Rattle.pair_rule.specs.Callers.{Unused};
 ghost use Rattle.command_line.specs.Rules.{flag_count};
 ghost use Rattle.command_line.specs.Valid.{IsValid};
 ghost use Rattle.treedb.specs.Filling.{HasInserted};

@@ -15,7 +15,8 @@ use Rattle.work_run.specs.Ran.{HasRunTask}
 use Rattle.work_run.specs.Telling.{Telling}
 use Rattle.work_run.specs.ToCome.{dealt_lines}
 use Rattle.work_run.specs.Work.{CanWork, HasTakenLines, HasWorked}
-use Rattle.work_run.specs.Workers.{AreSplitWorkers, AreJoined}
+use Rattle.pair_rule.specs.Callers.{AreJoined}
+use Rattle.work_run.specs.Workers.{AreSplitWorkers}
 use Rattle.work_run.proofs.Running.{can_work, answers_each, runs}
 use Rattle.work_run.proofs.TakenLines.{dealt_worked}
 

@@ -21,7 +21,8 @@ use Rattle.tdb_base.specs.Lines.{owned}
 use Rattle.work_run.specs.Ran.{HasRunTold}
 use Rattle.work_run.specs.Telling.{Telling, insertion}
 use Rattle.work_run.specs.Work.{CanWork, HasTakenLines, HasWorked}
-use Rattle.work_run.specs.Workers.{AreSplitWorkers, AreJoined}
+use Rattle.pair_rule.specs.Callers.{AreJoined}
+use Rattle.work_run.specs.Workers.{AreSplitWorkers}
 use Rattle.work_run.proofs.BlockLines.{blocks_below}
 use Rattle.work_run.proofs.DrawingLines.{gave_all}
 use Rattle.work_run.proofs.Running.{can_work, runs}

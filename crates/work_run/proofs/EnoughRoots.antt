@@ -27,7 +27,7 @@ use Rattle.work_run.specs.Enough.{IsOfNewStore, HasRootsFor, NeverAnswered, Plai
 use Rattle.work_run.specs.Drew.{AreDrawnBy}
 use Rattle.work_run.specs.Marks.{AgreesMarked, HasRunMarked, entries_of_mark}
 use Rattle.work_run.specs.Ran.{HasRunOver}
-use Rattle.work_run.proofs.Elements.{placed}
+use Rattle.pair_rule.proofs.Elements.{placed}
 use Rattle.work_run.proofs.MarkLaws.{marks-are-counted}
 use Rattle.work_run.proofs.Filled.{all_are_filled, has_all_below, no_longer}
 

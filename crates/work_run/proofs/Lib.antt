@@ -3,7 +3,6 @@ pub mod Dealing
 pub mod Stepping
 pub mod Mine
 pub mod Elements
-pub mod Joins
 pub mod SplitInTurn
 pub mod Answered
 pub mod Running

@@ -30,7 +30,8 @@ use Rattle.pair_rule.specs.Part.{Store, Part, root_pairs}
 use Rattle.pair_rule.specs.Splits.{HasTaken}
 use Rattle.pair_nodes.specs.Roots.{Refusals}
 use Rattle.work_run.specs.declared.worker.Worker.{Worker}
-use Rattle.work_run.specs.Workers.{after_splits, after_joins, IsSplitWorker, AreSplitWorkers, AreJoined}
+use Rattle.pair_rule.specs.Callers.{after_splits, after_joins, AreJoined}
+use Rattle.work_run.specs.Workers.{IsSplitWorker, AreSplitWorkers}
 use Rattle.work_run.specs.Full.{IsOfOne, is_full_inside, full_inside}
 use Rattle.work_run.specs.Giving.{Giving}
 use Rattle.work_run.specs.Inserted.{puts_of, Inserted}
@@ -42,9 +43,10 @@ use Rattle.work_run.specs.Enough.{IsOfNewStore, HasNodesFor, NeverAnswered}
 use Rattle.work_run.proofs.Answered.{barred_more, of_one_more}
 use Rattle.work_run.proofs.Few.{few_puts}
 use Rattle.work_run.proofs.Filled.{all_are_filled, has_all_below}
-use Rattle.work_run.proofs.Elements.{has_or_not, has_map, has_unmap, has_place, placed, numbered_at, at_numbered}
-use Rattle.work_run.proofs.SplitInTurn.{given, after_splits_stay, whole_again}
-use Rattle.work_run.proofs.Joins.{numbers_first, numbers_other}
+use Rattle.pair_rule.proofs.Elements.{has_map, has_unmap, has_place, placed}
+use Rattle.work_run.proofs.Elements.{has_or_not, numbered_at, at_numbered}
+use Rattle.pair_rule.proofs.InTurn.{given, after_splits_stay, whole_again}
+use Rattle.pair_rule.proofs.InTurn.{numbers_first, numbers_other}
 use Rattle.work_run.proofs.Mine.{all_at, picked_at, picked_has, picked_map}
 use Rattle.work_run.proofs.Owned.{owned_below, owned_at}
 use Rattle.work_run.proofs.Telling.{told_picked}
@@ -121,7 +123,7 @@ pub can_work : {T S A : Type 0} (part : Part T) (store : Store) (giving : Giving
     → AreSplitWorkers part store giving.left begins base now all_workers → ((j : ℕ) (s : S) → begins j s → giving.within lines s) → All (CanWork part store giving lines) all_workers
 can_work part store giving begins base now all_workers lines split inside = λ k d lt.
     (let w = split.each k d lt in
-    record { rest = w.rest; none_yet = w.none_yet; room = w.room; inside = inside k (get_or all_workers k d).lines w.begins_so })
+    record { rest = w.split.rest; none_yet = w.none_yet; room = w.room; inside = inside k (get_or all_workers k d).lines w.begins_so })
 
 -- each worker has an answer for each of its lines
 pub answers_each : {T S A : Type 0} (part : Part T) (store : Store) (giving : Giving S) (telling : Telling A) (trace : List Vector) (owner : ℕ → ℕ) (all_workers after : List (Worker T S A))
@@ -187,9 +189,9 @@ module _ {T S A : Type 0} (part : Part T) (refusals : Refusals part) (store : St
         pass = p.one.pass;
         there = has_map (λ (w : Worker T S A). w.pass) p.one after p.there;
         here = λ d. ap (λ (w : Worker T S A). w.pass) (p.here d);
-        start_is = is_split.view_is;
-        start_tree = untreed start.pass is_split.no_tree;
-        fresh = ap (λ (h : History). calls h (given v0 j)) (sym (after_splits_stay j v0).seen) ∙ subst (λ (n : ℕ). calls (after_splits j v0).seen n ≡ []) (ap (λ (u : View T). u.number) is_split.view_is) is_split.unknown.no_calls;
+        start_is = is_split.split.view_is;
+        start_tree = untreed start.pass is_split.split.no_tree;
+        fresh = ap (λ (h : History). calls h (given v0 j)) (sym (after_splits_stay j v0).seen) ∙ subst (λ (n : ℕ). calls (after_splits j v0).seen n ≡ []) (ap (λ (u : View T). u.number) is_split.split.view_is) is_split.split.unknown.no_calls;
         inserted = subst (λ (w : Worker T S A). Inserted part store (picked trace (lines_of j)) (picked replies (lines_of j)) (own_entries j) start.pass w.pass) (p.here p.one)
             (subst (λ (r : List Reply). Inserted part store (picked trace (lines_of j)) r (own_entries j) start.pass (get_or after j p.one).pass) (sym (picked_map telling.reply answers (lines_of j)))
             (subst (λ (x : List A). Inserted part store (picked trace (lines_of j)) (map telling.reply x) (λ c. told_entries telling c (picked trace (lines_of j)) x) start.pass (get_or after j p.one).pass) own a.inserted));

@@ -11,7 +11,7 @@ use Rattle.work_run.specs.BlockLines.{LinesDrawn, block_count, blocks_of, lines_
 use Rattle.work_run.specs.Drew.{AnswerTheirLines, AreDrawnBy, AreMarked, HasDrawnFrom, IsDrawnTrace, OwnTheirLines}
 use Rattle.tdb_base.specs.Lines.{owned}
 use Rattle.work_run.proofs.DrawingLines.{blocks_cover}
-use Rattle.work_run.proofs.Elements.{placed}
+use Rattle.pair_rule.proofs.Elements.{placed}
 use Rattle.work_run.proofs.WhoDrew.{alike_at, drawn_by, own_lines}
 
 -- one of some has ended, where all have

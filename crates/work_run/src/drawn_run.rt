@@ -8,7 +8,7 @@ ghost use Rattle.root_plain.specs.Plain.{plain};
 ghost use Rattle.tree_store.specs.Vectors.{IsVector};
 ghost use Rattle.work_run.specs.Drew.{HasRunDrawn, HasRunDrawnTask};
 ghost use Rattle.work_run.specs.Enough.{HasBucketsFor, NoRootIsFull};
-ghost use Rattle.work_run.specs.Workers.{Unused};
+ghost use Rattle.pair_rule.specs.Callers.{Unused};
 
 use crate::drawn::Drawn;
 use crate::drew::{finish_drawn, prepare};

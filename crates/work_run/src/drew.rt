@@ -6,7 +6,7 @@ ghost use Rattle.work_run.specs.BlockLines.{block_count, blocks_of};
 ghost use Rattle.work_run.specs.Drew.{AnswerTheirLines, AreDrawnBy, AreMarked, ArePlaced, HasDrawnFrom};
 ghost use Rattle.work_run.specs.Drew.{HasMarked, IsDrawnTrace, OwnTheirLines};
 ghost use Rattle.work_run.specs.Rooms.{IsPrepared, IsRoomFor};
-ghost use Rattle.work_run.specs.Workers.{AreJoined};
+ghost use Rattle.pair_rule.specs.Callers.{AreJoined};
 
 use crate::block_lines::{BlockLines, block_count};
 use crate::drawn::DrawnBy;

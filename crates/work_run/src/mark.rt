@@ -9,7 +9,7 @@ ghost use Rattle.root_plain.specs.Plain.{plain};
 ghost use Rattle.tree_store.specs.Vectors.{IsVector};
 ghost use Rattle.work_run.specs.Enough.{HasBucketsFor, NoRootIsFull};
 ghost use Rattle.work_run.specs.Marks.{HasRunMarked, MarkersMayBeRenumbered, MarksAreCounted};
-ghost use Rattle.work_run.specs.Workers.{Unused};
+ghost use Rattle.pair_rule.specs.Callers.{Unused};
 
 use crate::run::run_task;
 use crate::shared::{Compact, Plain, Shared};

@@ -1,5 +1,5 @@
 //! A store that workers share.
-ghost use Rattle.pair_rule.specs.Rest.{AtRest};
+ghost use Rattle.pair_rule.specs.Rest.{AtRest, KnowsName};
 ghost use Rattle.pair_rule.specs.Splits.{IsJoined};
 ghost use Rattle.region_root.specs.Compact.{compact};
 ghost use Rattle.root_plain.specs.Plain.{plain};
@@ -63,7 +63,7 @@ pub(crate) trait Shared: Sync {
     /// Sets a flag of the vector with this identifier: whether it was clear.
     fn set_flag(&self, pass: &mut PassOf<Self::View>, id: u64, flag: u32) -> bool
         requires rest { AtRest part (store self.now) pass.old }
-        requires named { (vector : Vector) × (name_of (view pass.old).seen vector ≡ Some id) }
+        requires named { KnowsName pass.old id }
         requires bit { flag < (store self.now).about.flags }
         ensures { RootActed part (store self.now) (Set flag result) id pass.old pass.new };
 

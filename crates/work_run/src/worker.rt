@@ -5,9 +5,8 @@ use pair_rule::PassOf;
 
 /// A worker with a pass of its own, what it has its lines from, and the answers to its lines so far.
 ///
-/// Workers stand one behind the other in memory, and each writes its fields at each line. Two of them on one
-/// cache line would wait for each other's writes, so the gap behind a worker's fields keeps the next one's
-/// off their lines. The buffers of passes are set apart likewise.
+/// Workers stand one behind the other in memory, and each writes its fields at each line. The gap behind them
+/// sets the next worker's apart, as that of a `Caller` does.
 #[repr(C)]
 pub struct Worker<T, S, A> {
     /// Its number among the workers, from 0.

@@ -2,7 +2,8 @@
 ghost use Rattle.std.specs.Prelude.{◌≡◌, ◌+◌, ◌<◌, ◌≤◌, ℕ, IfOk, OnOk, OnErr, All, length, map};
 ghost use Rattle.pair_rule.specs.Rest.{AtRest, view};
 ghost use Rattle.pair_rule.specs.View.{parent_view};
-ghost use Rattle.work_run.specs.Workers.{IsSplitWorker, AreSplitWorkers, AreJoined, Unused};
+ghost use Rattle.pair_rule.specs.Callers.{AreJoined, Unused};
+ghost use Rattle.work_run.specs.Workers.{IsSplitWorker, AreSplitWorkers};
 
 use crate::dealt::Dealing;
 use crate::shared::Shared;

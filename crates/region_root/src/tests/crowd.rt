@@ -5,7 +5,7 @@ ghost use Rattle.region_root.specs.Compact.{compact};
 
 use super::{Store, StorePass, peek, put, store, turn};
 use crate::{Peek, Regions};
-use pair_rule::PassOf;
+use pair_rule::Caller;
 use std::alloc::Global;
 use std::process::Abort;
 use std::sync::Wait;
@@ -14,19 +14,27 @@ use std::thread;
 use std::thread::Threads;
 use tdb_base::{NoMemory, Silent, Steps};
 
-// A caller's pass, from which of twelve roots on it puts them, what it was answered for each, whether it was
-// the first to set each one's flag, how often it was the first to set another flag and to clear it, and
-// whether it once missed a root that it had been told of.
-#[derive(Drop)]
-struct Caller {
-    pass: PassOf<Regions>,
-    begins: u64,
+// What a caller was answered for each of twelve roots, whether it was the first to set each one's flag, how
+// often it was the first to set another flag and to clear it, and whether it once missed a root that it had
+// been told of.
+#[derive(Clone, Copy)]
+struct Findings {
     answers: [Option<(u64, bool)>; 12],
     firsts: [bool; 12],
     set: u64,
     cleared: u64,
     missed: bool,
 }
+
+const NOTHING_YET: Findings = Findings {
+    answers: [None; 12],
+    firsts: [false; 12],
+    set: 0,
+    cleared: 0,
+    missed: false,
+};
+
+type Finder = Caller<Regions, Findings>;
 
 // Puts one root, sets its flag and looks for it: the answer, whether the flag was first set, and whether the
 // root was missed.
@@ -53,7 +61,7 @@ fn put_one<H: Wait>(
 }
 
 // Puts the twelve roots, from one of them on and around, and keeps the answers.
-fn put_twelve<H: Wait>(rt: &H, store: &Store, caller: &mut Caller)
+fn put_twelve<H: Wait>(rt: &H, store: &Store, caller: &mut Finder)
     requires width { store.now.about.width ≡ 16 }
     requires flags { store.now.about.flags ≡ 8 }
     requires slots { store.now.about.slots ≡ 3 }
@@ -61,16 +69,16 @@ fn put_twelve<H: Wait>(rt: &H, store: &Store, caller: &mut Caller)
     ensures { AtRest (compact 16 8) store.now caller.new.pass }
 {
     for turn in 0..12u64 {
-        let slot = (caller.begins % 12 + turn) % 12;
+        let slot = (5 * (caller.number % 12) + turn) % 12;
         let (answer, first, missed) = put_one(rt, store, &mut caller.pass, slot);
-        caller.answers[slot as usize] = answer;
-        caller.firsts[slot as usize] = first;
-        caller.missed |= missed;
+        caller.kept.answers[slot as usize] = answer;
+        caller.kept.firsts[slot as usize] = first;
+        caller.kept.missed |= missed;
     }
 }
 
 // Turns a flag of one root so often, each time set or cleared, and counts how often it changed.
-fn turn_each<H: Wait>(rt: &H, store: &Store, caller: &mut Caller, turns: &[bool])
+fn turn_each<H: Wait>(rt: &H, store: &Store, caller: &mut Finder, turns: &[bool])
     requires width { store.now.about.width ≡ 16 }
     requires flags { store.now.about.flags ≡ 8 }
     requires slots { store.now.about.slots ≡ 3 }
@@ -80,17 +88,17 @@ fn turn_each<H: Wait>(rt: &H, store: &Store, caller: &mut Caller, turns: &[bool]
     let mut steps = Steps::new(Silent);
     for set in turns {
         let Some((id, _)) = put(rt, store, &mut caller.pass, 5, &mut steps) else {
-            caller.missed = true;
+            caller.kept.missed = true;
             return;
         };
         let first = turn(rt, store, &mut caller.pass, id, 6, *set);
-        caller.set = caller.set.saturating_add(u64::from(first & *set));
-        caller.cleared = caller.cleared.saturating_add(u64::from(first & !*set));
+        caller.kept.set = caller.kept.set.saturating_add(u64::from(first & *set));
+        caller.kept.cleared = caller.kept.cleared.saturating_add(u64::from(first & !*set));
     }
 }
 
 // Fills its quarter of a region of 64 with roots that no other caller puts.
-fn fill_quarter<H: Wait>(rt: &H, store: &Store, caller: &mut Caller, number: u64)
+fn fill_quarter<H: Wait>(rt: &H, store: &Store, caller: &mut Finder, number: u64)
     requires width { store.now.about.width ≡ 16 }
     requires slots { store.now.about.slots ≡ 3 }
     requires rest { AtRest (compact 16 8) store.now caller.old.pass }
@@ -101,7 +109,7 @@ fn fill_quarter<H: Wait>(rt: &H, store: &Store, caller: &mut Caller, number: u64
     for turn in 0..16u64 {
         let slot = 4 * turn + number;
         let answer = put(rt, store, &mut caller.pass, slot, &mut steps);
-        caller.missed |= answer != Some((slot, true));
+        caller.kept.missed |= answer != Some((slot, true));
     }
 }
 
@@ -117,7 +125,7 @@ fn is_wrong(answer: Option<Peek>, slot: u64, told: bool) -> bool {
 }
 
 // Looks for the region's roots, one after another and around, without a lock.
-fn read_around(store: &Store, caller: &mut Caller)
+fn read_around(store: &Store, caller: &mut Finder)
     requires width { store.now.about.width ≡ 16 }
     requires slots { store.now.about.slots ≡ 3 }
     requires rest { AtRest (compact 16 8) store.now caller.old.pass }
@@ -128,13 +136,13 @@ fn read_around(store: &Store, caller: &mut Caller)
     for look in 0..6400u64 {
         let slot = look % 64;
         let answer = peek(store, &mut caller.pass, slot, &mut steps);
-        caller.missed |= is_wrong(answer, slot, told[slot as usize]);
+        caller.kept.missed |= is_wrong(answer, slot, told[slot as usize]);
         told[slot as usize] |= answer == Some(Peek::Seen(slot));
     }
 }
 
 // One of eight callers: the first four fill a region, and the others read it meanwhile.
-fn fill_or_read<H: Wait>(rt: &H, store: &Store, caller: &mut Caller, number: u64)
+fn fill_or_read<H: Wait>(rt: &H, store: &Store, caller: &mut Finder, number: u64)
     requires width { store.now.about.width ≡ 16 }
     requires slots { store.now.about.slots ≡ 3 }
     requires rest { AtRest (compact 16 8) store.now caller.old.pass }
@@ -159,7 +167,7 @@ enum Task<'a> {
 }
 
 // One caller does its task.
-fn act<H: Wait>(rt: &H, store: &Store, caller: &mut Caller, number: u64, task: &Task)
+fn act<H: Wait>(rt: &H, store: &Store, caller: &mut Finder, number: u64, task: &Task)
     requires width { store.now.about.width ≡ 16 }
     requires flags { store.now.about.flags ≡ 8 }
     requires slots { store.now.about.slots ≡ 3 }
@@ -174,7 +182,7 @@ fn act<H: Wait>(rt: &H, store: &Store, caller: &mut Caller, number: u64, task: &
 }
 
 // All callers do the task at once, each in a thread of its own.
-fn act_at_once<H: Threads + Wait + Sync>(rt: &H, store: &Store, callers: &mut [Caller], task: &Task)
+fn act_at_once<H: Threads + Wait + Sync>(rt: &H, store: &Store, callers: &mut [Finder], task: &Task)
     requires width { store.now.about.width ≡ 16 }
     requires flags { store.now.about.flags ≡ 8 }
     requires slots { store.now.about.slots ≡ 3 }
@@ -187,7 +195,7 @@ fn act_at_once<H: Threads + Wait + Sync>(rt: &H, store: &Store, callers: &mut [C
             rt,
             callers,
             count,
-            &|number, caller: &mut Caller|
+            &|number, caller: &mut Finder|
                 requires width { store.now.about.width ≡ 16 }
                 requires flags { store.now.about.flags ≡ 8 }
                 requires slots { store.now.about.slots ≡ 3 }
@@ -200,50 +208,36 @@ fn act_at_once<H: Threads + Wait + Sync>(rt: &H, store: &Store, callers: &mut [C
     }
 }
 
-// As many callers as asked for, each with a pass of its own.
+// So many callers that found nothing yet.
 fn split_callers(
     alloc: Global,
     store: &Store,
     pass: &mut StorePass,
     count: u64,
-) -> Result<Vec<Caller>, NoMemory>
+) -> Result<Vec<Finder>, NoMemory>
     requires { AtRest (compact 16 8) store.now pass.old }
     ensures rest { AtRest (compact 16 8) store.now pass.new }
     ensures callers { IfOk result (λ v. All (λ c. AtRest (compact 16 8) store.now c.pass) v.items) }
 {
-    let table = store.table();
-    let mut callers = Vec::new(alloc);
-    for number in 0..count {
-        let pass = table.split(alloc, pass)?;
-        callers.push(Caller {
-            pass,
-            begins: 5 * (number % 12),
-            answers: [None; 12],
-            firsts: [false; 12],
-            set: 0,
-            cleared: 0,
-            missed: false,
-        })?;
-    }
-    Ok(callers)
+    store.table().split_callers(alloc, pass, count, NOTHING_YET)
 }
 
 // How many callers gave a root its name, and how many were the first to set its flag, if all were answered
 // its identifier and none missed a root.
-fn named_by(callers: &[Caller], slot: usize) -> Option<(u64, u64)>
+fn named_by(callers: &[Finder], slot: usize) -> Option<(u64, u64)>
     requires { slot < 12 }
 {
     let mut fresh = 0u64;
     let mut first = 0u64;
     for caller in callers {
-        let (id, new) = caller.answers[slot]?;
-        if id != slot as u64 || caller.missed {
+        let (id, new) = caller.kept.answers[slot]?;
+        if id != slot as u64 || caller.kept.missed {
             return None;
         }
         if new {
             fresh = fresh.saturating_add(1);
         }
-        if caller.firsts[slot] {
+        if caller.kept.firsts[slot] {
             first = first.saturating_add(1);
         }
     }
@@ -293,21 +287,21 @@ fn alternate(alloc: Global, count: u32) -> Result<Vec<bool>, NoMemory> {
 }
 
 // How often the flag was first set, and first cleared, if no caller missed the root.
-fn turned_by(callers: &[Caller]) -> Option<(u64, u64)> {
+fn turned_by(callers: &[Finder]) -> Option<(u64, u64)> {
     let mut set = 0u64;
     let mut cleared = 0u64;
     for caller in callers {
-        if caller.missed {
+        if caller.kept.missed {
             return None;
         }
-        set = set.saturating_add(caller.set);
-        cleared = cleared.saturating_add(caller.cleared);
+        set = set.saturating_add(caller.kept.set);
+        cleared = cleared.saturating_add(caller.kept.cleared);
     }
     Some((set, cleared))
 }
 
 // The callers set one flag at once, and then clear it at once, and so on: each time one of them is the first.
-fn take_turns<H: Threads + Wait + Abort + Sync>(rt: &H, store: &Store, callers: &mut [Caller])
+fn take_turns<H: Threads + Wait + Abort + Sync>(rt: &H, store: &Store, callers: &mut [Finder])
     requires width { store.now.about.width ≡ 16 }
     requires flags { store.now.about.flags ≡ 8 }
     requires slots { store.now.about.slots ≡ 3 }

@@ -1,7 +1,6 @@
 //! Roots asked for as a store asks: a look, and then a put where that found none.
 ghost use Rattle.std.specs.Prelude.{◌≡◌, ◌^◌, ◌<◌, IfSome, Some};
-ghost use Rattle.tdb_base.specs.History.{Vector, name_of};
-ghost use Rattle.pair_rule.specs.Rest.{AtRest, view};
+ghost use Rattle.pair_rule.specs.Rest.{AtRest, KnowsName};
 ghost use Rattle.region_root.specs.Compact.{compact};
 
 use super::{Store, StorePass, store, zeros};
@@ -27,7 +26,7 @@ fn ask<H: Wait, L: Ledger>(
     requires slot { slot < 2 ^ 16 }
     ensures rest { AtRest (compact 16 8) store.now pass.new }
     ensures named { IfSome result
-        (λ a. (vector : Vector) × (name_of (view pass.new).seen vector ≡ Some a.0)) }
+        (λ a. KnowsName pass.new a.0) }
 {
     let node = zeros(store, pass)?;
     match look_or_put(roots, pass, node, slot, steps) {

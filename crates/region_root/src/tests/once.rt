@@ -1,7 +1,6 @@
 //! A call takes the lock of a root's region once, or never: a lock and an unlock raise its word by one each.
 ghost use Rattle.std.specs.Prelude.{◌≡◌, Some};
-ghost use Rattle.tdb_base.specs.History.{Vector, name_of};
-ghost use Rattle.pair_rule.specs.Rest.{AtRest, view};
+ghost use Rattle.pair_rule.specs.Rest.{AtRest, KnowsName};
 ghost use Rattle.region_root.specs.Compact.{compact};
 
 use super::{Store, StorePass, peek, put, put_some, read, store, turn};
@@ -60,7 +59,7 @@ fn asks_once<H: Wait + Abort>(rt: &H, store: &Store, pass: &mut StorePass, lock:
 fn turns_once<H: Wait + Abort>(rt: &H, store: &Store, pass: &mut StorePass, lock: &mut u64, id: u64)
     requires flags { store.now.about.flags ≡ 8 }
     requires rest { AtRest (compact 16 8) store.now pass.old }
-    requires named { (vector : Vector) × (name_of (view pass.old).seen vector ≡ Some id) }
+    requires named { KnowsName pass.old id }
     ensures { AtRest (compact 16 8) store.now pass.new }
 {
     let pair = root_pair(store, pass, id);

@@ -6,7 +6,7 @@ ghost use Rattle.root_plain.specs.Plain.{plain};
 
 use super::{Store, StorePass, put, store};
 use crate::Roots;
-use pair_rule::PassOf;
+use pair_rule::Caller;
 use std::alloc::Global;
 use std::process::Abort;
 use std::test::Fail;
@@ -14,22 +14,13 @@ use std::thread;
 use std::thread::Threads;
 use tdb_base::{NoMemory, Silent, Steps};
 
-// A caller's pass, from which of the roots (0, 0) to (0, 11) on it puts them, and what it was answered for
-// each.
-#[derive(Drop)]
-struct Caller {
-    pass: PassOf<Roots>,
-    begins: u64,
-    answers: [Option<(u64, bool)>; 12],
-}
+// What a caller was answered for each of the roots (0, 0) to (0, 11).
+type Answers = [Option<(u64, bool)>; 12];
+
+type Asker = Caller<Roots, Answers>;
 
 // Puts the twelve roots, from one of them on and around, and keeps the answers.
-fn put_twelve(
-    store: &Store,
-    pass: &mut StorePass,
-    begins: u64,
-    answers: &mut [Option<(u64, bool)>; 12],
-)
+fn put_twelve(store: &Store, pass: &mut StorePass, begins: u64, answers: &mut Answers)
     requires width { store.now.about.width ≡ 16 }
     requires slots { store.now.about.slots ≡ 2 }
     requires rest { AtRest plain store.now pass.old }
@@ -43,7 +34,7 @@ fn put_twelve(
 }
 
 // All callers put the roots, each in a thread of its own.
-fn put_at_once<H: Threads + Sync>(rt: &H, store: &Store, callers: &mut [Caller])
+fn put_at_once<H: Threads + Sync>(rt: &H, store: &Store, callers: &mut [Asker])
     requires width { store.now.about.width ≡ 16 }
     requires slots { store.now.about.slots ≡ 2 }
     requires callers { All (λ c. AtRest plain store.now c.pass) callers.old }
@@ -55,64 +46,52 @@ fn put_at_once<H: Threads + Sync>(rt: &H, store: &Store, callers: &mut [Caller])
             rt,
             callers,
             count,
-            &|_, caller: &mut Caller|
+            &|_, caller: &mut Asker|
                 requires width { store.now.about.width ≡ 16 }
                 requires slots { store.now.about.slots ≡ 2 }
                 requires rest { AtRest plain store.now caller.now.pass }
                 ensures { AtRest plain store.entry.now caller.exit.now.pass }
             {
-                put_twelve(store, &mut caller.pass, caller.begins, &mut caller.answers);
+                let begins = 5 * (caller.number % 12);
+                put_twelve(store, &mut caller.pass, begins, &mut caller.kept);
             },
         );
     }
 }
 
-// As many callers as asked for, each with a pass of its own.
+// So many callers that were answered nothing yet.
 fn split_callers(
     alloc: Global,
     store: &Store,
     pass: &mut StorePass,
     count: u64,
-) -> Result<Vec<Caller>, NoMemory>
+) -> Result<Vec<Asker>, NoMemory>
     requires { AtRest plain store.now pass.old }
     ensures rest { AtRest plain store.now pass.new }
     ensures callers { IfOk result (λ v. All (λ c. AtRest plain store.now c.pass) v.items) }
 {
-    let table = store.table();
-    let mut callers = Vec::new(alloc);
-    for number in 0..count {
-        let pass = table.split(alloc, pass)?;
-        callers.push(Caller {
-            pass,
-            begins: 5 * (number % 12),
-            answers: [None; 12],
-        })?;
-    }
-    Ok(callers)
+    store.table().split_callers(alloc, pass, count, [None; 12])
 }
 
-// The passes of all callers are joined into one: how many names they gave.
-fn join_callers(store: &Store, pass: &mut StorePass, callers: Vec<Caller>) -> u64
+// All callers are joined; answers how many names they gave.
+fn join_callers(store: &Store, pass: &mut StorePass, callers: Vec<Asker>) -> u64
     requires rest { AtRest plain store.now pass.old }
     requires callers { All (λ c. AtRest plain store.now c.pass) callers.items }
 {
-    for caller in callers {
-        let Caller { pass: other, .. } = caller;
-        store.table().join(pass, other);
-    }
+    store.table().join_callers(pass, callers);
     pass.names_count
 }
 
 // How many callers were answered that they gave the root its name, if all were answered the same identifier,
 // or all that there is no place.
-fn named_by(callers: &[Caller], root: usize) -> Option<(Option<u64>, u64)>
+fn named_by(callers: &[Asker], root: usize) -> Option<(Option<u64>, u64)>
     requires { root < 12 }
 {
     let first = callers.get(0)?;
-    let id = first.answers[root].map(|answer| answer.0);
+    let id = first.kept[root].map(|answer| answer.0);
     let mut fresh = 0u64;
     for caller in callers {
-        let answer = caller.answers[root];
+        let answer = caller.kept[root];
         if answer.map(|answer| answer.0) != id {
             return None;
         }

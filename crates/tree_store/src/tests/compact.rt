@@ -1,8 +1,7 @@
 //! Compact stores, whose identifiers are roots: two nodes or slots as one number.
-ghost use Rattle.std.specs.Prelude.{◌≡◌, ◌≤◌, Some};
+ghost use Rattle.std.specs.Prelude.{◌≡◌, ◌≤◌};
 ghost use Rattle.packed_word.specs.Word.{IsLayout};
-ghost use Rattle.tdb_base.specs.History.{Vector, name_of};
-ghost use Rattle.pair_rule.specs.Rest.{AtRest, view};
+ghost use Rattle.pair_rule.specs.Rest.{AtRest, KnowsName};
 ghost use Rattle.region_root.specs.Compact.{compact};
 ghost use Rattle.tree_store.specs.Store.{IfNamed};
 
@@ -48,7 +47,7 @@ pub(crate) fn put<H: Wait + Abort, L: Ledger, const W: u32, const F: u32>(
 ) -> Reply
     requires rest { AtRest (compact W F) store.now pass.old }
     ensures rest { AtRest (compact W F) store.now pass.new }
-    ensures named { IfNamed result (λ fresh id. (v : Vector) × (name_of (view pass.new).seen v ≡ Some id)) }
+    ensures named { IfNamed result (λ fresh id. KnowsName pass.new id) }
 {
     assert!(rt; store.fits(vector));
     store.insert_from(rt, pass, vector, steps)

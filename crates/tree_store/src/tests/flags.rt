@@ -1,19 +1,16 @@
 //! Flags of vectors, in a plain store and in a compact one: what each call answers, worked out from the calls
 //! before it; that they outlive insertions which move the cells of a region; and eight threads that turn the
 //! same flags.
-ghost use Rattle.std.specs.Prelude.{◌≡◌, All, IfOk};
+ghost use Rattle.std.specs.Prelude.{◌≡◌, All};
 ghost use Rattle.pair_rule.specs.Rest.{AtRest};
 
 use super::flagged::{CompactFlags, Doing, Flagged, PlainFlags};
 use super::{compact, store};
-use crate::TreeStore;
-use pair_rule::{Pass, PassOf, RootPart};
-use std::alloc::Global;
+use pair_rule::Caller;
 use std::process::Abort;
 use std::test::Fail;
 use std::thread;
 use std::thread::Threads;
-use tdb_base::NoMemory;
 
 // What is done to the flags of one vector, in turn, and what that answers.
 static TURNS: [(Doing, u64); 8] = [
@@ -58,25 +55,20 @@ fn flags_stay_while_a_region_fills(rt: HostRuntime) -> Result<(), Fail> {
     Ok(())
 }
 
-// A caller's pass, how often it was the first to set a flag and to clear one, and whether it read a flag that
-// nobody sets.
-struct Caller<T> {
-    pass: PassOf<T>,
+// How often a caller was the first to set a flag and to clear one, and whether it read a flag that nobody
+// sets.
+#[derive(Clone, Copy)]
+struct Turns {
     set: u64,
     cleared: u64,
     wrong: bool,
 }
 
-impl<T> Drop for Caller<T> {
-    fn drop(self) {
-        let Self {
-            pass: _,
-            set: _,
-            cleared: _,
-            wrong: _,
-        } = self;
-    }
-}
+const NONE_YET: Turns = Turns {
+    set: 0,
+    cleared: 0,
+    wrong: false,
+};
 
 // Vectors, and which of their flags are set and cleared: 8, 4 and none.
 static TURNED: [([u32; 2], u64); 3] = [([0, 1], 255), ([0, 2], 85), ([0, 3], 0)];
@@ -84,7 +76,7 @@ static TURNED: [([u32; 2], u64); 3] = [([0, 1], 255), ([0, 2], 85), ([0, 3], 0)]
 // Sets these flags of a vector, or clears them, and reads all after each.
 fn turn_flags<D: Flagged>(
     store: &D,
-    caller: &mut Caller<D::View>,
+    caller: &mut Caller<D::View, Turns>,
     vector: &[u32],
     mask: u64,
     set: bool,
@@ -101,20 +93,20 @@ fn turn_flags<D: Flagged>(
                 None => 0,
             };
             if set {
-                caller.set = caller.set.saturating_add(first);
+                caller.kept.set = caller.kept.set.saturating_add(first);
             } else {
-                caller.cleared = caller.cleared.saturating_add(first);
+                caller.kept.cleared = caller.kept.cleared.saturating_add(first);
             }
         }
         match store.act(&mut caller.pass, vector, Doing::Read) {
-            Some((_, read)) => caller.wrong |= read & !mask != 0,
-            None => caller.wrong = true,
+            Some((_, read)) => caller.kept.wrong |= read & !mask != 0,
+            None => caller.kept.wrong = true,
         }
     }
 }
 
 // The same with all three vectors.
-fn turn_vectors<D: Flagged>(store: &D, caller: &mut Caller<D::View>, set: bool)
+fn turn_vectors<D: Flagged>(store: &D, caller: &mut Caller<D::View, Turns>, set: bool)
     requires flags { (D.store store.now).about.flags ≡ 8 }
     requires rest { AtRest D.part (D.store store.now) caller.old.pass }
     ensures { AtRest D.part (D.store store.now) caller.new.pass }
@@ -128,7 +120,7 @@ fn turn_vectors<D: Flagged>(store: &D, caller: &mut Caller<D::View>, set: bool)
 fn turn_at_once<H: Threads + Sync, D: Flagged>(
     rt: &H,
     store: &D,
-    callers: &mut [Caller<D::View>],
+    callers: &mut [Caller<D::View, Turns>],
     set: bool,
 )
     requires flags { (D.store store.now).about.flags ≡ 8 }
@@ -141,7 +133,7 @@ fn turn_at_once<H: Threads + Sync, D: Flagged>(
             rt,
             callers,
             count,
-            &|_, caller: &mut Caller<D::View>|
+            &|_, caller: &mut Caller<D::View, Turns>|
                 requires flags { (D.store store.now).about.flags ≡ 8 }
                 requires rest { AtRest D.part (D.store store.now) caller.now.pass }
                 ensures { AtRest D.part (D.store store.entry.now) caller.exit.now.pass }
@@ -152,38 +144,16 @@ fn turn_at_once<H: Threads + Sync, D: Flagged>(
     }
 }
 
-// Eight callers, each with a pass of its own.
-fn split_callers<R: RootPart<16, 8>>(
-    alloc: Global,
-    store: &TreeStore<R, 16, 8>,
-    pass: &mut Pass<R, 16, 8>,
-) -> Result<Vec<Caller<R::View>>, NoMemory>
-    requires { AtRest R.part store.now pass.old }
-    ensures callers { IfOk result (λ v. All (λ c. AtRest R.part store.now c.pass) v.items) }
-{
-    let mut callers = Vec::new(alloc);
-    for _ in 0..8u64 {
-        let pass = store.split(alloc, pass)?;
-        callers.push(Caller {
-            pass,
-            set: 0,
-            cleared: 0,
-            wrong: false,
-        })?;
-    }
-    Ok(callers)
-}
-
 // How often a caller was the first to set a flag, and to clear one, if none read a flag that nobody sets.
-fn turned_by<T>(callers: &[Caller<T>]) -> Option<(u64, u64)> {
+fn turned_by<T>(callers: &[Caller<T, Turns>]) -> Option<(u64, u64)> {
     let mut set = 0u64;
     let mut cleared = 0u64;
     for caller in callers {
-        if caller.wrong {
+        if caller.kept.wrong {
             return None;
         }
-        set = set.saturating_add(caller.set);
-        cleared = cleared.saturating_add(caller.cleared);
+        set = set.saturating_add(caller.kept.set);
+        cleared = cleared.saturating_add(caller.kept.cleared);
     }
     Some((set, cleared))
 }
@@ -193,7 +163,7 @@ fn turned_by<T>(callers: &[Caller<T>]) -> Option<(u64, u64)> {
 fn take_turns<H: Threads + Abort + Sync, D: Flagged>(
     rt: &H,
     store: &D,
-    callers: &mut [Caller<D::View>],
+    callers: &mut [Caller<D::View, Turns>],
 )
     requires flags { (D.store store.now).about.flags ≡ 8 }
     requires callers { All (λ c. AtRest D.part (D.store store.now) c.pass) callers.old }
@@ -209,7 +179,7 @@ fn take_turns<H: Threads + Abort + Sync, D: Flagged>(
 #[test]
 fn one_of_eight_threads_is_first(rt: HostRuntime) -> Result<(), Fail> {
     let (plain, mut pass) = store::<16, 8>(&rt, rt.alloc(), 2, 3);
-    let mut callers = split_callers(rt.alloc(), &plain, &mut pass)?;
+    let mut callers = plain.split_callers(rt.alloc(), &mut pass, 8, NONE_YET)?;
     let flags = PlainFlags {
         rt: &rt,
         store: &plain,
@@ -221,7 +191,7 @@ fn one_of_eight_threads_is_first(rt: HostRuntime) -> Result<(), Fail> {
 #[test]
 fn one_of_eight_threads_is_first_in_regions(rt: HostRuntime) -> Result<(), Fail> {
     let (compact, mut pass) = compact::store::<16, 8>(&rt, rt.alloc(), 2, 3, 6);
-    let mut callers = split_callers(rt.alloc(), &compact, &mut pass)?;
+    let mut callers = compact.split_callers(rt.alloc(), &mut pass, 8, NONE_YET)?;
     let flags = CompactFlags {
         rt: &rt,
         store: &compact,

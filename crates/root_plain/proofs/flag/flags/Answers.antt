@@ -1,5 +1,5 @@
-use Rattle.std.proofs.Common.{arith, Bool, not, ℕ, ◌<◌, sym, subst}
-use Rattle.tdb_base.specs.History.{Set, Clear, Look}
+use Rattle.std.proofs.Common.{arith, ℕ, sym, subst}
+use Rattle.tdb_base.specs.History.{Look}
 use Rattle.pair_rule.specs.Rest.{AtRest, view}
 use Rattle.root_plain.specs.Plain.{plain}
 use Rattle.root_plain.specs.Plays.{DoesTo}

@@ -1,7 +1,6 @@
-use Rattle.std.proofs.Common.{refl, subst, sym, ap, ◌∙◌, ◌≡◌, ◌+◌, ◌*◌, ◌^◌, ◌<◌, ◌≤◌, ℕ}
+use Rattle.std.proofs.Common.{refl, subst, sym, ap, ◌∙◌, ◌+◌, ◌*◌, ◌^◌, ◌<◌, ◌≤◌, ℕ}
 use Rattle.std.specs.Int.{bit_not, w64}
 use Rattle.pair_rule.specs.declared.sizes.Sizes.{Sizes}
-use Rattle.pair_rule.proofs.Widths.{layout_of}
 use Rattle.root_plain.proofs.RootPasses.{bucket_small, word_of_bucket, word_inside, acted_rests}
 use Rattle.root_plain.proofs.FlagPasses.{clear_allowed, clear_told}
 use Rattle.root_plain.proofs.flag_steps.clear_in_word.Goals as goal

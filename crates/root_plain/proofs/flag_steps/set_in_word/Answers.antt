@@ -1,6 +1,5 @@
-use Rattle.std.proofs.Common.{refl, subst, sym, ap, ◌∙◌, ◌≡◌, ◌+◌, ◌*◌, ◌^◌, ◌<◌, ◌≤◌, ℕ}
+use Rattle.std.proofs.Common.{refl, subst, sym, ap, ◌∙◌, ◌+◌, ◌*◌, ◌^◌, ◌<◌, ◌≤◌, ℕ}
 use Rattle.pair_rule.specs.declared.sizes.Sizes.{Sizes}
-use Rattle.pair_rule.proofs.Widths.{layout_of}
 use Rattle.root_plain.proofs.RootPasses.{bucket_small, word_of_bucket, word_inside, acted_rests}
 use Rattle.root_plain.proofs.FlagPasses.{set_allowed, set_told}
 use Rattle.root_plain.proofs.flag_steps.set_in_word.Goals as goal

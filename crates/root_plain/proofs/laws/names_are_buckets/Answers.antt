@@ -1,4 +1,3 @@
-use Rattle.std.proofs.Common.{◌<◌, ◌^◌}
 use Rattle.pair_rule.specs.Paths.{size}
 use Rattle.root_plain.proofs.Probing.{name_bucket}
 use Rattle.root_plain.proofs.laws.names_are_buckets.Goals as goal

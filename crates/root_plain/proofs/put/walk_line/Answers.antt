@@ -1,6 +1,6 @@
 use Rattle.std.proofs.Common.{arith, refl, subst, ◌+◌, ◌*◌, ◌<◌, ℕ}
 use Rattle.pair_nodes.specs.Probe.{pair_of_word}
-use Rattle.pair_rule.specs.Paths.{root_buckets, reach, Passed, Listed}
+use Rattle.pair_rule.specs.Paths.{root_buckets, reach}
 use Rattle.pair_rule.specs.Rest.{view}
 use Rattle.root_plain.specs.Probe.{Passes}
 use Rattle.pair_rule.proofs.Calling.{called_then, some_more, buffers_then}

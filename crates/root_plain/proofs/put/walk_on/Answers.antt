@@ -1,7 +1,7 @@
 use Rattle.std.proofs.Common.{arith, refl, subst, sym, ap, ◌∙◌, ◌≡◌, ◌+◌, ◌*◌, ◌<◌, ℕ}
 use Rattle.pair_nodes.specs.Probe.{pair_of_word}
 use Rattle.probe_path.specs.Path.{Course, Progress}
-use Rattle.pair_rule.specs.Paths.{root_buckets, reach, Passed, Listed}
+use Rattle.pair_rule.specs.Paths.{root_buckets, Passed, Listed}
 use Rattle.pair_rule.specs.Rest.{view}
 use Rattle.root_plain.specs.Probe.{Along, Passes}
 use Rattle.pair_rule.proofs.Calling.{called_then, some_more, buffers_then}

@@ -1,4 +1,4 @@
-use Rattle.std.proofs.Common.{arith, refl, [], ◌∷◌, Bool, Option, Some, None, MatchOption, subst, sym, ap, ◌∙◌, ◌≡◌, ◌+◌, ◌-◌, ◌*◌, ◌^◌, ◌<◌, ◌≤◌, ℕ}
+use Rattle.std.proofs.Common.{arith, refl, [], Bool, Option, Some, None, MatchOption, subst, sym, ◌≡◌, ◌-◌, ◌*◌, ◌^◌, ◌<◌, ◌≤◌, ℕ}
 use Rattle.pair_rule.specs.declared.sizes.Sizes.{Sizes}
 use Rattle.pair_rule.proofs.Widths.{layout_of}
 use Rattle.pair_nodes.specs.Probe.{pair_of_word}

@@ -2,7 +2,7 @@ use Rattle.std.proofs.Common.{◌<◌, ◌∙◌, List, length, map, ap, arith}
 use Rattle.std.proofs.lemmas.List.{length-map}
 use Rattle.pair_rule.specs.declared.pass.PassOf.{PassOf}
 use Rattle.pair_rule.specs.Rest.{AtRest}
-use Rattle.work_run.proofs.Elements.{placed}
+use Rattle.pair_rule.proofs.Elements.{placed}
 use Rattle.work_run.proofs.Settling.{all_alike, own_answered}
 use Rattle.work_run.proofs.WhoDrew.{alike_at}
 use Rattle.work_run.proofs.drew.finish_drawn.Goals as goal

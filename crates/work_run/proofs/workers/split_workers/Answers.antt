@@ -2,8 +2,10 @@ use Rattle.std.proofs.Common.{◌∷◌, ◌∙◌, ℕ, List, [], length, map, 
 use Rattle.pair_rule.specs.declared.pass.PassOf.{PassOf}
 use Rattle.pair_rule.specs.Rest.{view}
 use Rattle.work_run.specs.declared.worker.Worker.{Worker}
-use Rattle.work_run.specs.Workers.{IsSplitWorker, AreSplitWorkers, AreJoined}
-use Rattle.work_run.proofs.SplitInTurn.{split_more, unused}
+use Rattle.pair_rule.specs.Callers.{AreJoined}
+use Rattle.work_run.specs.Workers.{IsSplitWorker, AreSplitWorkers}
+use Rattle.pair_rule.proofs.InTurn.{unused}
+use Rattle.work_run.proofs.SplitInTurn.{split_more}
 use Rattle.work_run.proofs.workers.split_workers.Goals as goal
 
 pub loop-number-preserved : goal.loop-number-preserved
@@ -20,10 +22,7 @@ loop-number-preserved g c =
     let number = c.loop-number.number in
     let one : IsSplitWorker part t left begins (view old) number worker = record {
       number_is = e.split.number_is;
-      rest = e.split.rest;
-      view_is = e.split.view_is;
-      unknown = e.split.unknown;
-      no_tree = e.split.no_tree;
+      split = e.split.split;
       begins_so = inv.begins number worker.lines e.split.begins_so;
       none_yet = e.split.none_yet;
       room = e.split.room;
@@ -46,5 +45,6 @@ returns-in_default-clause-refused g c =
     let all_workers = c.loop-number.all_workers.items in
     let new = c.join_workers.new.pass in
     let from = λ (p : PassOf g.row.S-View.Denot). AreJoined part t p new (map (λ (w : Worker g.row.S-View.Denot g.row.P-Lines.Denot g.row.A.Denot). w.pass) all_workers) in
-    unused part t g.P.Lines.Supply.giving.left (g.P.Dealing.begins c.args.dealing.now) c.args.pass.now c.loop-number.pass new all_workers c.loop-number.invariant.split
+    let inv = c.loop-number.invariant.split in
+    unused part t (λ (w : Worker g.row.S-View.Denot g.row.P-Lines.Denot g.row.A.Denot). w.pass) c.args.pass.now c.loop-number.pass new all_workers inv.pass_is inv.view_is (λ j d lt. (inv.each j d lt).split)
     (subst from c.in_default.ensures.refused c.join_workers.ensures)

@@ -1,4 +1,4 @@
-use Rattle.std.proofs.Common.{◌≡◌, ℕ, sym, subst}
+use Rattle.std.proofs.Common.{sym, subst}
 use Rattle.packed_word.specs.Word.{pair_of}
 use Rattle.pair_rule.specs.Part.{Store}
 use Rattle.pair_rule.specs.Calls.{IsSomeRoot}
