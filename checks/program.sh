@@ -173,6 +173,11 @@ bash checks/room.sh > "$work/got" 2>&1
 was=$?
 tell "$(tail -n 1 "$work/got")" "$([ $was -eq 0 ] && echo yes)" "$(head -n 3 "$work/got")"
 
+# The library for C
+bash checks/c.sh > "$work/got" 2>&1
+was=$?
+tell "$(tail -n 1 "$work/got")" "$([ $was -eq 0 ] && echo yes)" "$(head -n 5 "$work/got")"
+
 # The command itself, and what installs it
 bash checks/command.sh > "$work/got" 2>&1
 was=$?

@@ -5,17 +5,16 @@ ghost use Rattle.tree_store.specs.Vectors.{IsVector};
 use crate::store::TreeStore;
 use pair_rule::RootPart;
 
-// Whether each slot is below 2^W.
+// Whether each slot is below 2^W, by one pass without a branch: whether the bits of all slots together are.
 fn all_below<const W: u32>(vector: &[u32]) -> bool
     requires { W ≤ 31 }
     ensures { IsTrue result ↔ All (λ x. x < 2 ^ W) vector.now }
 {
+    let mut bits = 0;
     for i in 0..vector.len() {
-        if vector[i] >> W != 0 {
-            return false;
-        }
+        bits |= vector[i];
     }
-    true
+    bits >> W == 0
 }
 
 impl<R: RootPart<W, F>, const W: u32, const F: u32> TreeStore<R, W, F> {

@@ -1,0 +1,5 @@
+pub mod AsBox
+mod Full
+mod Live
+mod Sought
+mod Called

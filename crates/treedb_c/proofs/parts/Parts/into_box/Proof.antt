@@ -1,0 +1,86 @@
+-- `into_box` has the parts made a box again, which owns what they own.
+use Rattle.std.proofs.Common.{◌≡◌, List, [], ◌∷◌, ◌++◌, refl, sym, subst, ap}
+use Rattle.std.proofs.raw_atomic.Walks.{proved_at}
+use Rattle.core.proofs.alloc.Calls.{token, Goes-blank}
+use Rattle.std_alloc.specs.Box.Ownership.{box_owns}
+use Rattle.std_alloc.proofs.BoxSteps.Form.{Bx, D, R, P, B, args, box_ty, word, box_typed}
+use Rattle.std_alloc.proofs.BoxSteps.Steps.{box_out, box_in}
+use base.Fml.{ftrue, fsep, flft}
+use base.Logic.{ent, id⊢}
+use contract.BorrowLft.{◌⊑◌}
+use contract.Monad.{fact}
+use contract.Running.{tables}
+use denote.Exit.{no}
+use denote.RawPtr.{block_ptr}
+use denote.Signature.{plain}
+use denote.Steps.{heard, nothing, only}
+use denote.Triple.Call.{calls_at_last}
+use denote.Triple.Spec.{triple_of}
+use denote.Triple.Table.{framed}
+use denote.Triple.Walked.{says, Stays, stay_dropped, walk_of, ends_at}
+use mir.MapTy.{inst_fn}
+use mir.Syntax.{Body, place, copy, assign, rv_opd, seq, return}
+use mir.Val.{Val, vptr, has_ty, WT}
+use prog.Wp.{WpFn}
+use types.ByLocal.{alloc_all, pass_all, free_all, look_at, get, get_in, sets, lands_last, env}
+use types.Kit.{Item, at_ret, ‵, raw, ◌⊛◌, some, later, ◌$◌, ◌∵◌, !, qed, by, move, drop, use1, join, split, split3, pick, rewrite, fsplit, fjoin, feq_i, suffices, await, done}
+use types.Part.{whole, sub}
+use types.Run.{stop, fld, no_more, and_then, of_opd, returns, enter, first, blocks, exec}
+use Rattle.std_alloc.specs.contracts.boxed.Box.from_raw as shut
+use Rattle.std_alloc.proofs.boxed.Box.from_raw.Met.{met as shut_met}
+use Rattle.treedb_c.specs.contracts.parts.Parts as parts
+use Rattle.treedb_c.specs.contracts.parts.Parts.into_box as f
+use Rattle.treedb_c.proofs.parts.Parts.into_box.Statement.{statement}
+use Rattle.treedb_c.proofs.parts.Parts.into_box.Code as code
+
+-- what is left after the call
+abbrev rest : Body
+rest = seq (assign (place 0 []) (rv_opd (copy (place 4 [])))) return
+
+pub into_box_spec : {M : Type 1} → statement M
+into_box_spec 𝓤 𝓛 𝓜 𝓡 wired X Z LX LZ g d dd allocator md =
+    let E : Bx = record { row = X; laws = LX; al = record { row = Z; laws = LZ; g = g; d = d; drops = dd } } in
+    let T = f.ended X Z g d dd in
+    let c = f.clauses X Z g d dd 𝓛 𝓜.mem 𝓡.returns in
+    let Own = plain (λ _. parts.the_row (R E) (P E) g) in
+    let stayed : Stays T.signature.params T.kept = (stay_dropped Own no, tt) in
+    let fn = inst_fn (args E) code.function in
+    let W = walk_of 𝓛 T stayed c in
+    let 𝓣 = tables 𝓤 𝓛.H 𝓜 𝓡 𝓡.env in
+    let Shuts = triple_of 𝓛 (shut.signature X Z g d dd) (shut.spec X Z g d dd 𝓛 𝓜.mem 𝓡.returns) in
+    proved_at 𝓛 T stayed c 𝓜 𝓡 (Goes-blank 𝓛 2 Own no (λ κs x v. tt), tt)
+    (f.Key.name (args E)) fn (code.unfolded 𝓤 𝓛.H 𝓜 𝓡 wired (X, (Z, tt)) d dd) (λ z are.
+    let κs = z.0.0 in let qs = z.0.1 in let a = z.0.3.0.alloc in let x = z.0.3.0.value in
+    let box : D E = record { ptr = z.0.3.0.ptr; alloc = a; value = x } in
+    let tokens : Item 𝓤 = ‵ (flft κs.0 qs.0) ⊛ ‵ (flft κs.1.0 qs.1.0) ⊛ ‵ ftrue in
+    let in_x : Item 𝓤 = raw (fact 𝓤 (κs.0 ⊑ X.lives)) in
+    let in_a : Item 𝓤 = raw (fact 𝓤 (κs.1.0 ⊑ Z.lives)) in
+    qed 𝓛 ((tokens ⊛ ‵ (fsep ((B E).own_val box z.0.4.0) ftrue)) ∷ (in_x ⊛ in_a ⊛ ‵ ftrue) ∷ []) ∵ split ! $ move ! (1 ∷ []) $ fsplit ! $
+    box_out E ! box z.0.4.0 (λ b o h ptr bits fits. fjoin ! $
+    let w = word E h b o in
+    let y : Shuts.Ghost = ((κs, qs, tt, (a, (block_ptr b o, tt)), (h ∷ [], (vptr b o ∷ [], tt))), x) in
+    let owned : List (Item 𝓤) = ‵ (box_owns (token E.al a) (R E) (block_ptr b o) x) ∷ ‵ ((P E).own_val a (h ∷ [])) ∷ ‵ ftrue ∷ tokens ∷ (in_x ⊛ in_a ⊛ ‵ ftrue) ∷ [] in
+    by ! (subst (λ (vs : List Val). ent 𝓤 (types.Kit.⋆ 𝓛 owned) (WpFn 𝓤 𝓛.H 𝓣.C 𝓣.Λ fn (vs ++ []) (W.post z))) (sym bits)
+    (qed 𝓛 owned ∵ enter ! 𝓣.C 𝓣.Λ fn (w ∷ []) _ $ alloc_all ! (λ locals. pass_all ! refl (box_typed E h b o fits, tt) $
+    sets ! (of_opd ! (get_in ! (fld ! refl (stop !)) (sub ! 0 refl (whole !)))) refl (tt, tt) $
+    sets ! (of_opd ! (get_in ! (fld ! refl (stop !)) (sub ! 1 refl (whole !)))) refl fits $
+    first ! $ blocks ! $ sets ! (of_opd ! (get ! refl)) refl fits $
+    move ! (4 ∷ []) $ split3 ! $ move ! (2 ∷ []) $ drop ! $ move ! (1 ∷ 2 ∷ []) $ join ! $ move ! (1 ∷ 0 ∷ []) $ join ! $
+    -- [what it requires; the handle; true; the tokens]
+    move ! (2 ∷ []) $ feq_i ! (List Val) (vptr b o ∷ []) (vptr b o ∷ []) refl $ fjoin ! $ move ! (2 ∷ 0 ∷ []) $ fjoin ! $
+    move ! (2 ∷ 0 ∷ []) $ join ! $ join ! $ use1 𝓛 (raw (Shuts.pre y)) (id⊢ 𝓤 _) $
+    calls_at_last ! (framed 𝓤 𝓛.H 𝓜 𝓣) Shuts
+    (shut_met 𝓤 𝓛 𝓜 𝓡 (code.calls-std_alloc::boxed::Box::from_raw 𝓡.env wired) X Z LX LZ g d dd allocator md)
+    y (and_then ! (get ! refl) (and_then ! (get ! refl) (no_more !))) (λ u.
+    use1 𝓛 (later (some (λ (r : D E). (tokens ⊛ ‵ ((B E).own_val r (u ∷ []))) ⊛ some (λ (_ : Unit {0} × (Unit {0} × Unit {0})).
+    ‵ (fsep ftrue (fsep ftrue ftrue)) ⊛ (raw (fact 𝓤 (r.value ≡ x)) ⊛ raw (fact 𝓤 (r.alloc ≡ a))))))) (id⊢ 𝓤 _) $
+    await ! tt $ pick ! (λ r. split ! $ move ! (1 ∷ []) $ pick ! (λ _. split3 ! $ drop ! $ heard ! (r.value ≡ x) (λ same. drop ! $
+    split ! $ move ! (1 ∷ []) $
+    box_out E ! r (u ∷ []) (λ b' o' h' ptr' bits' fits'. box_in E ! r b' o' r.value ptr' refl $
+    rewrite ! 0 (λ (vs : List Val). ‵ ((B E).own_val r vs)) (sym bits') refl $
+    let typed : lib.Dec.T (has_ty (box_ty E) u) × WT u =
+    subst (λ (s : Val). lib.Dec.T (has_ty (box_ty E) s) × WT s) (sym (ap only bits')) (box_typed E h' b' o' fits') in
+    lands_last ! refl typed $ exec ! 𝓣.C 𝓣.Λ (env fn.locals locals) rest (at_ret (env fn.locals locals) (W.post z)) $
+    sets ! (of_opd ! (get ! refl)) refl typed $ returns ! (look_at ! 0 refl) $ free_all ! refl $
+    suffices ! _ (ends_at 𝓛 T stayed c z u r ((tt, (tt, tt)), tt) (tt, tt)) $ says ! same $
+    nothing ! $ nothing ! $ fjoin ! $ join ! $ move ! (1 ∷ 0 ∷ []) $ join ! $ done !))))))))))

@@ -1,0 +1,9 @@
+pub mod Codes
+pub mod Holding
+pub mod Calls
+pub mod Inner
+pub mod Flags
+pub mod Full
+pub mod Room
+pub mod Held
+pub mod Handles
