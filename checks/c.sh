@@ -49,6 +49,16 @@ if command -v g++ > /dev/null; then
   run plus
 fi
 
+# the front page's lines, as a program
+{
+  printf '#include "treedb.h"\n#include <stdio.h>\nint main(void) {\n'
+  sed -n '/^## From C/,/^## /s/^    //p' README.md
+  printf '  return state[0] == 7 && state[1] == 0 && state[2] == 1 ? 0 : 1;\n}\n'
+} > "$work/front.c"
+build front "$work/front.c" || fault "the front page's lines in C are not built"
+run front
+grep -qE '^state [0-9]+ is new$' "$work/log" || fault "the front page's lines in C"
+
 for name in calls memory threads; do
   build $name checks/c/$name.c || fault "$name.c is not built"
   run $name

@@ -37,13 +37,18 @@ cat > "$work/bin/rt" <<'END'
 #!/usr/bin/env bash
 if [ -e "$BROKEN" ]; then echo "something first"; echo "src/lib.rt:1:1: error: no such word"; echo "and more"; exit 1; fi
 mkdir -p out
+if [ "$1" = doc ]; then echo "$KIT/START-HERE.md"; fi
+if [ "$1" = lib ]; then ar rc out/libtreedb_c.a "$KIT/c/member"; fi
 if [ "$1" = run ]; then
   printf '#!/bin/sh\necho "ran $*"\n[ $# -eq 5 ] || exit 5\n' > out/treedb
   chmod +x out/treedb
 fi
 END
 chmod +x "$work/bin/rt"
-export BROKEN=$work/broken
+export BROKEN=$work/broken KIT=$work/kit
+mkdir -p "$KIT/c"
+echo "a member" > "$KIT/c/member"
+ar rc "$KIT/c/liblibc_c.a"
 
 call "$tree/treedb" insert --stats
 ran 5 "insert --stats" "a first call"
@@ -91,15 +96,21 @@ grep -q "treedb/out.log has all" "$work/err" || fault "the log isn't named"
 rm "$BROKEN"
 
 # Installed, it runs from its own folder, has its page, and leaves nothing behind when it is taken away.
-mkdir "$tree/docs"
+mkdir "$tree/docs" "$tree/include"
 cp docs/treedb.1 "$tree/docs"
-cp install "$tree"
+cp include/treedb.h "$tree/include"
+cp install clib "$tree"
 prefix="$work/a prefix"
 call "$tree/install" "$prefix"
 [ $was -eq 0 ] && [ ! -s "$work/out" ] || fault "an installation"
 (cd "$prefix" && find . -type f | sort) > "$work/out"
-printf './bin/treedb\n./libexec/treedb/treedb\n./share/man/man1/treedb.1\n' | cmp -s - "$work/out" ||
-  fault "other files are installed"
+printf './%s\n' bin/treedb include/treedb.h lib/libtreedb.a lib/pkgconfig/treedb.pc libexec/treedb/treedb \
+  share/man/man1/treedb.1 | cmp -s - "$work/out" || fault "other files are installed"
+[ "$(ar t "$prefix/lib/libtreedb.a")" = member ] || fault "the library isn't what was made"
+if command -v pkg-config > /dev/null; then
+  PKG_CONFIG_PATH="$prefix/lib/pkgconfig" call pkg-config --cflags --libs --static treedb
+  grep -q "prefix/include" "$work/out" && grep -q -- "-ltreedb -lpthread" "$work/out" || fault "pkg-config"
+fi
 call "$prefix/bin/treedb" mark --flag 1
 ran 5 "mark --flag 1" "the installed command"
 call "$tree/install" --uninstall "$prefix"
@@ -115,4 +126,4 @@ rm "$work/bin/rt" "$tree/crates/treedb/out/treedb"
 PATH=/usr/bin:/bin call "$tree/treedb" bench
 [ $was -eq 1 ] && grep -q "toolchain isn't here" "$work/err" || fault "without the toolchain"
 
-echo "./treedb builds where it must, by any way of calling it, and says what it does; ./install puts it in place and takes it away"
+echo "./treedb builds where it must, by any way of calling it, and says what it does; ./install puts it and the library for C in place and takes them away"

@@ -326,6 +326,16 @@ else
   tell "README's example" no "$(cat "$work/example")"
 fi
 
+# README's lines in Rattle are those of crates/store_uses/src/first.rt, which is proved and tested; spaces,
+# comments and a last comma tell nothing
+bare() { sed 's,//.*,,' | tr -d ' \n' | sed 's/,}/}/g'; }
+lines=$(sed -n '/^## From Rattle/,/^## /s/^    //p' README.md | bare)
+if [ -n "$lines" ] && [[ $(bare < crates/store_uses/src/first.rt) == *"$lines"* ]]; then
+  tell "README's lines in Rattle" yes
+else
+  tell "README's lines in Rattle" no "$lines"
+fi
+
 # the plots are those of their figures
 if ! command -v python3 > /dev/null; then
   echo "skipped: the plots, for want of python3"

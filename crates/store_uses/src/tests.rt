@@ -1,7 +1,16 @@
 //! The searches, whose numbers of states were found by a program of a few lines in another language.
 
-use crate::{Found, Protocol, SearchError, State, path_to_error, search_peterson, search_together};
+use crate::{
+    Found, Protocol, SearchError, State, insert_and_read, path_to_error, search_peterson,
+    search_together,
+};
 use std::test::Fail;
+
+#[test]
+fn a_state_is_read_back(rt: HostRuntime) -> Result<(), Fail> {
+    assert!(rt; insert_and_read(rt.alloc()) == Ok([7, 0, 1]));
+    Ok(())
+}
 
 // examples/peterson.py searches the same protocol by a set of tuples: 20 states, and never both critical.
 #[test]
