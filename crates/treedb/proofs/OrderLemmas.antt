@@ -5,7 +5,7 @@ use Rattle.std.proofs.lemmas.List.MinMax.{ranks_by}
 use Rattle.std.specs.Cmp.Lexicographic.{bytes_decides, nat_list_eq_equiv, pointwise}
 use Rattle.std.specs.List.{AllPairs, Contains, list_all}
 use Rattle.std.specs.List.Sorted.{IsPermutation, IsSorted, IsSortedByKey, IsStrictlySortedBy}
-use Rattle.std.specs.Ordering.{is_lt, nat_cmp, int_cmp, ordering_reverse, ordering_then}
+use Rattle.std.specs.Ordering.{is_lt, int_cmp, ordering_reverse, ordering_then}
 use Rattle.std.specs.Prelude.{◌↔◌, All, nat_eq}
 use Rattle.std.proofs.Math.Seq.{take-length}
 use Rattle.std.proofs.lemmas.Int.{of_z-to_z}
@@ -17,7 +17,7 @@ use Rattle.std.proofs.lemmas.Map.Lookups.{CmpEqualImpliesEq, exact_bytes, exact_
 use Rattle.std.proofs.lemmas.Map.Made.{AllPairs-from_IsDistinct, IsDistinct-from_AllPairs}
 use Rattle.tdb_base.specs.History.{Vector}
 use Rattle.tdb_base.proofs.DistinctLemmas.{at-map, map-at}
-use Rattle.tdb_base.proofs.ListLemmas.{At, at-contained}
+use Rattle.tdb_base.proofs.ListLemmas.{at-contained}
 use Rattle.tdb_base.proofs.TallyLemmas.{contained-at}
 use Rattle.trace_csv.specs.Signed.{AreHalves, halves, is_signed, signed_of}
 use Rattle.trace_csv.specs.Sorted.{IsSortedText, list_order}
@@ -27,7 +27,7 @@ use Rattle.trace_csv.specs.Vectors.{AreSlots, signed_text, vectors_text}
 use Rattle.trace_csv.proofs.SignedLemmas.{are-below, signed_of-halves}
 use Rattle.tdb_base.specs.History.{History}
 use Rattle.tdb_base.specs.Lines.{named}
-use Rattle.treedb.specs.Listing.{IsListing, IsSignedSet, IsSignedText, form_order, signed_in, signed_order}
+use Rattle.treedb.specs.Listing.{IsListing, IsSignedText, form_order, signed_in, signed_order}
 use Rattle.treedb.specs.ReadBack.{AreVectorsOf, IsReadBack, listed, vectors}
 use Rattle.treedb.specs.declared.distinct.ReadBack.{ReadBack}
 

@@ -6,7 +6,6 @@ use Rattle.pair_rule.specs.Rest.{view}
 use Rattle.treedb.specs.ReadBack.{AwaitsLines, IsOfLines, IsReadBack, IsReadBy, ReadsInto, new_id, new_ids}
 use Rattle.treedb.proofs.NewLemmas.{if-printed, if-some, read-into}
 use Rattle.trace_csv.specs.declared.form.Form.{Form}
-use Rattle.trace_csv.specs.declared.report.Stats.{Stats}
 use Rattle.treedb.specs.Answered.{CountsOf}
 use Rattle.treedb.specs.Lines.{form_of}
 use Rattle.treedb.specs.Stored.{AreTold}
