@@ -222,6 +222,20 @@ check "vectors of three slots in compact mode" 0 "" insert --mode compact --prof
 wants '1,805306373,new\n2,1342177283,new\n3,805306373,seen\nlines 3\ndistinct 2\nnodes 0\nstored 15\nraw 16\n'
 check "statistics in compact mode" 0 "" insert --mode compact --stats < examples/pairs.csv
 
+# Signed numbers: pairs with numbers on both sides of 0
+awk -F, '{ print $1 - 498 "," $2 * -90001 + 20000000 }' "$work/pairs.csv" > "$work/signed.csv"
+wants '1,262144,new\n2,4,new\n3,262144,seen\nlines 3\ndistinct 2\n'
+check "signed vectors in compact mode" 0 "" insert --mode compact --profile 16 --signed < <(printf -- '-1,0\n0,-1\n-1,0\n')
+check_names "200,000 signed pairs" "$work/signed.csv" insert --signed
+check_names "200,000 signed pairs by 8 workers in compact mode" "$work/signed.csv" insert --signed --mode compact --workers 8
+check_marks "200,000 signed pairs, marked by 8 workers" "$work/signed.csv" 8 64 --signed
+LC_ALL=C sort -t, -k1,1n -k2,2n -u "$work/signed.csv" > "$work/wanted"
+check "the different signed pairs, beside sort" 0 "" distinct --signed < "$work/signed.csv"
+check "the same by 8 workers in compact mode" 0 "" distinct --signed --mode compact --workers 8 < "$work/signed.csv"
+wants ''
+check "a signed number that is out of range" 3 "treedb: record 1 field 1 is out of range" insert --signed < <(printf '2147483648,0\n')
+check "a minus without --signed" 3 "treedb: record 1 field 2 is not a number" insert < <(printf '1,-1\n')
+
 wants ''
 check "no input" 3 "treedb: no records" insert < /dev/null
 check "a record of one field" 3 "treedb: record 2 has 1 fields, the first has 2" insert < <(printf '1,2\n1\n')
@@ -252,6 +266,8 @@ for workers in 1 8 64; do
   ./treedb insert --workers $workers --block 16 --stats < "$work/pairs.csv" > "$work/report"
   judged "a report by $workers workers has a history" 0 "" 'yes\n' "$work/pairs.csv" "$work/report" --workers $workers --block 16
 done
+./treedb insert --signed --workers 8 < "$work/signed.csv" > "$work/report"
+judged "a signed report has a history" 0 "" 'yes\n' "$work/signed.csv" "$work/report" --signed --workers 8
 ./treedb insert < "$work/walk.csv" > "$work/report"
 lines=$(wc -l < "$work/walk.csv")
 distinct=$(sed -n 's/^distinct //p' "$work/report")

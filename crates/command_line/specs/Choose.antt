@@ -79,7 +79,13 @@ task_of values =
     given (given (values (codes "job")) job_named) (λ job.
     given (given (values (codes "mode")) mode_named) (λ mode.
     given (given (values (codes "profile")) profile_named) (λ profile.
-    Some (record { job = job; mode = mode; profile = profile; stats = is_given (values (codes "stats")) }))))
+    Some (record {
+      job = job;
+      mode = mode;
+      profile = profile;
+      signed = is_given (values (codes "signed"));
+      stats = is_given (values (codes "stats"));
+    }))))
 
 abbrev pub workers_of : Values → Option WorkerWords
 workers_of values =
@@ -114,6 +120,7 @@ choice_with task workers tables bench = record {
   job = task.job;
   mode = task.mode;
   profile = task.profile;
+  signed = task.signed;
   workers = workers.workers;
   block = workers.block;
   claims = workers.claims;

@@ -26,14 +26,17 @@ size_option name low high =
 abbrev pub number_option : Text → ℕ → ℕ → Text → Rule
 number_option name low high default = record (size_option name low high) { defaults = default ∷ [] }
 
+-- how the numbers are read, and what is reported
+abbrev pub task_flags : List Rule
+task_flags = flag_rule (codes "signed") ∷ flag_rule (codes "stats") ∷ []
+
 -- what is to be done and reported
 abbrev pub task_words : List Rule
 task_words =
     required_word (codes "job")
     ∷ text_option (codes "mode") (codes "plain")
     ∷ text_option (codes "profile") (codes "28")
-    ∷ flag_rule (codes "stats")
-    ∷ []
+    ∷ task_flags
 
 -- how the lines are shared out, and how they are marked
 abbrev pub worker_words : List Rule

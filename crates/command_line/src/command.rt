@@ -3,7 +3,7 @@
 ghost use Rattle.std.specs.Prelude.{◌≡◌, IfOk, false, codes, fold};
 ghost use Rattle.clap.specs.Words.{app_of, rule_of, with_rule};
 ghost use Rattle.command_line.specs.Command.{bare, simple_command, bench_words, table_words, task_words};
-ghost use Rattle.command_line.specs.Command.{worker_words};
+ghost use Rattle.command_line.specs.Command.{task_flags, worker_words};
 ghost use Rattle.command_line.specs.Command as table;
 
 use clap::builder::ValueParser;
@@ -63,14 +63,22 @@ fn bare<'a>(alloc: Global) -> Command<'a>
         .disable_version_flag(true)
 }
 
+fn with_task_flags<'a>(alloc: Global, command: Command<'a>) -> Result<Command<'a>, AllocError>
+    ensures { IfOk result (λ c. app_of c ≡ fold with_rule (app_of command.entry) task_flags) }
+{
+    let signed = command.arg(flag(alloc, "signed"))?;
+    let stats = signed.arg(flag(alloc, "stats"))?;
+    Ok(stats)
+}
+
 fn with_task_words<'a>(alloc: Global, command: Command<'a>) -> Result<Command<'a>, AllocError>
     ensures { IfOk result (λ c. app_of c ≡ fold with_rule (app_of command.entry) task_words) }
 {
     let job = command.arg(required_word(alloc, "job"))?;
     let mode = job.arg(text_option(alloc, "mode", "plain"))?;
     let profile = mode.arg(text_option(alloc, "profile", "28"))?;
-    let stats = profile.arg(flag(alloc, "stats"))?;
-    Ok(stats)
+    let flags = with_task_flags(alloc, profile)?;
+    Ok(flags)
 }
 
 fn with_worker_words<'a>(alloc: Global, command: Command<'a>) -> Result<Command<'a>, AllocError>

@@ -1,4 +1,4 @@
-//! The words of the command line: one simple command of `clap`, its sixteen values and its five further
+//! The words of the command line: one simple command of `clap`, its seventeen values and its five further
 //! rules.
 #![tactic(auto)]
 

@@ -4,7 +4,7 @@ use thiserror::Error;
 
 /// The usage text, four lines that each end in LF.
 pub const USAGE: &str =
-    "usage: treedb insert|distinct|bench|check|mark [--mode plain|compact] [--profile 16|28|31]\n  [--workers N] [--block N] [--nodes D] [--roots R] [--region S] [--probe P]\n  [--stats] [--lines N] [--slots K] [--values M] [--seed S]\n  [--claims] [--flag B]\n";
+    "usage: treedb insert|distinct|bench|check|mark [--mode plain|compact] [--profile 16|28|31]\n  [--workers N] [--block N] [--nodes D] [--roots R] [--region S] [--probe P]\n  [--stats] [--lines N] [--slots K] [--values M] [--seed S]\n  [--signed] [--claims] [--flag B]\n";
 
 /// What the program does.
 #[derive(Clone, Copy, Debug, PartialEq, Eq)]
@@ -39,6 +39,9 @@ pub struct Choice {
     pub mode: Mode,
     /// The width of a slot and of a node's index in bits: 16, 28 or 31, by default 28.
     pub profile: u32,
+    /// Whether the numbers of a trace are signed, from -2147483648 to 2147483647, each kept as two slots of 16
+    /// bits; by default not. It has an effect for `insert`, `distinct`, `check` and `mark`.
+    pub signed: bool,
     /// How many workers: 1 to 64, by default 1.
     pub workers: u64,
     /// How many lines a worker takes at a time: 1 to 65536, by default 64.

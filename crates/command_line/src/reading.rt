@@ -20,6 +20,8 @@ pub struct TaskWords {
     pub mode: Mode,
     /// The bits of a slot: 16, 28 or 31.
     pub profile: u32,
+    /// Whether the numbers of a trace are signed.
+    pub signed: bool,
     /// Whether statistics are reported.
     pub stats: bool,
 }
@@ -172,11 +174,13 @@ fn task(matches: &ArgMatches) -> Option<TaskWords>
     let job = job(matches)?;
     let mode = mode(matches)?;
     let profile = profile(matches)?;
+    let signed = is_given(matches, "signed");
     let stats = is_given(matches, "stats");
     Some(TaskWords {
         job,
         mode,
         profile,
+        signed,
         stats,
     })
 }
@@ -250,6 +254,7 @@ pub fn choice(matches: &ArgMatches) -> Option<Choice>
         job: task.job,
         mode: task.mode,
         profile: task.profile,
+        signed: task.signed,
         workers: workers.workers,
         block: workers.block,
         claims: workers.claims,

@@ -10,9 +10,9 @@ use std::test::Fail;
 // The names of a choice's values, and those that `insert` alone chooses: a word by its place among the words
 // that stand there, from 0, and a size that isn't given as 0.
 const NAMES: &str =
-    "job mode profile workers block claims flag nodes roots region probe stats lines slots values seed";
+    "job mode profile signed workers block claims flag nodes roots region probe stats lines slots values seed";
 
-const DEFAULTS: [u64; 16] = [0, 0, 28, 1, 64, 0, 0, 0, 0, 0, 4194304, 0, 1000, 8, 4, 1];
+const DEFAULTS: [u64; 17] = [0, 0, 28, 0, 1, 64, 0, 0, 0, 0, 0, 4194304, 0, 1000, 8, 4, 1];
 
 // The words that the text has between bars, with the program's name; none where it is empty.
 fn words_of(alloc: Global, text: &str) -> Result<Vec<String>, AllocError> {
@@ -46,10 +46,10 @@ fn value_of(text: &str) -> Result<u64, Fail> {
 }
 
 // The values with one of them changed.
-fn changed(values: [u64; 16], name: &str, value: u64) -> Result<[u64; 16], Fail> {
+fn changed(values: [u64; 17], name: &str, value: u64) -> Result<[u64; 17], Fail> {
     let mut values = values;
     for (i, other) in NAMES.split(' ').enumerate() {
-        if i < 16 && other == name {
+        if i < 17 && other == name {
             values[i] = value;
             return Ok(values);
         }
@@ -58,7 +58,7 @@ fn changed(values: [u64; 16], name: &str, value: u64) -> Result<[u64; 16], Fail>
 }
 
 // The defaults with the values changed that the text lists, as `mode compact`, between commas.
-fn expected(text: &str) -> Result<[u64; 16], Fail> {
+fn expected(text: &str) -> Result<[u64; 17], Fail> {
     let mut values = DEFAULTS;
     for change in text.split(',') {
         if let Some((name, value)) = change.split_once(' ') {
@@ -86,11 +86,12 @@ fn size_of(size: Option<u32>) -> u64 {
 }
 
 // The values of a choice, in the order of their names.
-fn values_of(choice: &Choice) -> [u64; 16] {
+fn values_of(choice: &Choice) -> [u64; 17] {
     [
         job_of(choice),
         u64::from(choice.mode == Mode::Compact),
         choice.profile as u64,
+        u64::from(choice.signed),
         choice.workers,
         choice.block,
         u64::from(choice.claims),
@@ -143,6 +144,10 @@ treedb|insert|--mode|compact|--roots|7|--region|7 => mode compact,roots 7,region
 treedb|insert|--probe|1 => probe 1
 treedb|insert|--probe|4194304 => nothing
 treedb|insert|--stats => stats on
+treedb|insert|--signed => signed on
+treedb|--signed|distinct|--stats|--profile|16 => job distinct,signed on,stats on,profile 16
+treedb|bench|--signed => job bench,signed on
+treedb|mark|--signed|--flag|6|--mode|compact => job mark,signed on,flag 6,mode compact
 treedb|insert|--claims => claims on
 treedb|--claims|bench|--workers|4|--block|1024 => job bench,claims on,workers 4,block 1024
 treedb|distinct|--claims => job distinct,claims on
@@ -247,6 +252,10 @@ treedb|insert|--probe|0
 treedb|insert|--probe|4194305
 treedb|insert|--stats=true
 treedb|insert|--stats|--stats
+treedb|insert|--sign
+treedb|insert|--signed=true
+treedb|insert|--signed|on
+treedb|insert|--signed|--signed
 treedb|insert|--claim
 treedb|insert|--claims=true
 treedb|insert|--claims|on
@@ -326,7 +335,7 @@ const TOLD: &str = "\
 usage: treedb insert|distinct|bench|check|mark [--mode plain|compact] [--profile 16|28|31]
   [--workers N] [--block N] [--nodes D] [--roots R] [--region S] [--probe P]
   [--stats] [--lines N] [--slots K] [--values M] [--seed S]
-  [--claims] [--flag B]
+  [--signed] [--claims] [--flag B]
 ";
 
 #[test]

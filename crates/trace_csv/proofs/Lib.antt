@@ -14,7 +14,6 @@ pub mod MarkLemmas
 pub mod MinusLemmas
 pub mod RowLemmas
 pub mod SignedLemmas
-pub mod SortLemmas
 pub mod SortedLemmas
 pub mod TraceLemmas
 pub mod VectorsLemmas

@@ -1,15 +1,16 @@
 -- Signed vectors and their halves.
 use Rattle.std.proofs.Common.{◌≡◌, ◌≤◌, ◌<◌, ◌+◌, ◌-◌, ◌*◌, ◌/◌, ◌%◌, ◌^◌, ℕ, ℤ, pos, negsuc, List, [], ◌∷◌, length, Bool, true, false, Option, Some, None, Ok, Err, refl, sym, ap, subst, arith, ◌∙◌}
-use Rattle.std.proofs.lemmas.Bool.{leb-true}
-use Rattle.std.proofs.lemmas.Int.{to_z-of_z}
-use Rattle.std.proofs.lemmas.List.Elements.{All-cons, All-weaker}
+use Rattle.std.proofs.Math.Facts.{sfits_to_z}
+use Rattle.std.proofs.lemmas.Bool.{le-leb, leb-true}
+use Rattle.std.proofs.lemmas.Int.{of_z-to_z, to_z-of_z}
+use Rattle.std.proofs.lemmas.List.Elements.{All-cons, All-head, All-tail, All-weaker}
 use Rattle.std.proofs.lemmas.List.Sums.{list_all-from_AllPass}
 use Rattle.std.specs.Prelude.{if◌then◌else◌, ◌==◌, ◌&&◌, nat_le, int_le, All, FitsSigned}
 use Rattle.std.specs.Int.{cast_signed, cast_unsigned, w32}
 use Rattle.std.specs.List.{list_all}
 use Rattle.trace_csv.specs.Fields.{written}
 use Rattle.trace_csv.specs.Rows.{csv_rows}
-use Rattle.trace_csv.specs.Signed.{AreHalves, OneSignedVector, halves, is_signed, signed_of}
+use Rattle.trace_csv.specs.Signed.{AreHalves, HalvesOfTold, OneSignedVector, halves, is_signed, signed_of}
 use Rattle.trace_csv.specs.Trace.{Signed, each_from, in_range, line_of, map_ok, signed_at, slots_of, trace_of}
 use Rattle.trace_csv.specs.declared.refusal.TraceError.TheVariants.{Ragged, TooBig}
 use Rattle.trace_csv.proofs.EachLemmas.{each-all}
@@ -58,6 +59,33 @@ signed_of-halves (z ∷ v) h =
     let first = to_z-of_z w32 z (fits z (both-left (is_signed z) _ h)) in
     ap (λ n. cast_signed w32 n ∷ signed_of (halves v)) whole ∙ ap (λ x. x ∷ signed_of (halves v)) first
     ∙ ap (λ t. z ∷ t) (signed_of-halves v (both-right (is_signed z) _ h))
+
+-- a signed word is a signed number
+signed-fits : (z : ℤ) → FitsSigned w32 z → is_signed z ≡ true
+signed-fits (pos n) f = le-leb n 2147483647 (let low = f.sfits in omega (arith, low))
+signed-fits (negsuc n) f = both-true (nat_le n 2147483647) (le-leb n 2147483647 (let low = f.sfits in omega (arith, low)))
+  where
+    both-true : (b : Bool) → b ≡ true → (b && true) ≡ true
+    both-true b e = rw e refl
+
+-- and the signed vector that slots of 16 bits tell, two for each number, has these halves
+pub halves-signed_of : HalvesOfTold
+unfolding signed_of
+halves-signed_of [] even small = (refl, refl)
+halves-signed_of (a ∷ []) even small = absurd (omega (arith, even))
+halves-signed_of (a ∷ b ∷ slots) even small =
+    let high : a < 65536 = All-head (λ n. n < 65536) a (b ∷ slots) small in
+    let others = All-tail (λ n. n < 65536) a (b ∷ slots) small in
+    let low : b < 65536 = All-head (λ n. n < 65536) b slots others in
+    let rest = halves-signed_of slots (omega (arith, even)) (All-tail (λ n. n < 65536) b slots others) in
+    let word : a * 65536 + b < 2 ^ 32 = omega (arith, high, low) in
+    let back : cast_unsigned w32 (cast_signed w32 (a * 65536 + b)) ≡ a * 65536 + b = of_z-to_z w32 (a * 65536 + b) word in
+    let first : (a * 65536 + b) / 65536 ≡ a = omega (arith, low) in
+    let second : (a * 65536 + b) % 65536 ≡ b = omega (arith, low) in
+    let signed : is_signed (cast_signed w32 (a * 65536 + b)) ≡ true = signed-fits (cast_signed w32 (a * 65536 + b)) (sfits_to_z {w = w32} {n = a * 65536 + b} (record { fits = word })) in (
+      ap (λ n. n / 65536 ∷ n % 65536 ∷ halves (signed_of slots)) back ∙ (λ i. first i ∷ second i ∷ rest.0 i),
+      rw signed rest.1,
+    )
 
 -- halves have 16 bits
 halves-below : (v : List ℤ) → list_all is_signed v ≡ true → All (λ n. n < 2 ^ 16) (halves v)

@@ -1,5 +1,6 @@
 -- Signed numbers from -2 ^ 31 to 2 ^ 31 - 1, each kept as two slots of 16 bits.
-use Rattle.std.specs.Prelude.{◌≡◌, ◌+◌, ◌*◌, ◌/◌, ◌%◌, ◌^◌, ◌&&◌, ℕ, ℤ, pos, negsuc, Bool, true, List, [], ◌∷◌, int_le}
+use Rattle.std.specs.Prelude.{◌≡◌, ◌+◌, ◌*◌, ◌/◌, ◌%◌, ◌^◌, ◌<◌, ◌&&◌, ℕ, ℤ, pos, negsuc, Bool, true, List, [], ◌∷◌, int_le}
+use Rattle.std.specs.Prelude.{All, length}
 use Rattle.std.specs.Int.{cast_signed, cast_unsigned, w32}
 use Rattle.std.specs.List.{flat_map, list_all}
 
@@ -25,6 +26,15 @@ pub record AreHalves (line : List ℕ) : Type 0 where
   pub vector : List ℤ
   pub signed : list_all is_signed vector ≡ true
   pub is : line ≡ halves vector
+
+-- the halves of a signed vector tell it, and slots of 16 bits, two for each number, are the halves of the
+-- signed vector that they tell
+abbrev pub ToldByHalves : Type 0
+ToldByHalves = (v : List ℤ) → list_all is_signed v ≡ true → signed_of (halves v) ≡ v
+
+abbrev pub HalvesOfTold : Type 0
+HalvesOfTold = (slots : List ℕ) → length slots % 2 ≡ 0 → All (λ n. n < 65536) slots
+    → (halves (signed_of slots) ≡ slots) × (list_all is_signed (signed_of slots) ≡ true)
 
 -- different signed vectors have different halves
 abbrev pub OneSignedVector : Type 0

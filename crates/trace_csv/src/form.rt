@@ -4,7 +4,7 @@ ghost use Rattle.trace_csv.specs.Trace.{most_fields};
 ghost use Rattle.trace_csv.specs.Words.{fields_in, slots_in};
 
 /// How a trace writes its numbers.
-#[derive(Clone, Copy, Debug)]
+#[derive(Clone, Copy, Debug, PartialEq, Eq)]
 pub enum Form {
     /// Unsigned, each below 2 to this power. A number is a slot.
     Unsigned(u32),

@@ -42,7 +42,7 @@ pub fn write_vectors<K: Sink>(
 /// of a negative one; after that the sink has finished.
 ///
 /// The halves of the vectors stand one after the other in `flat`, `slots` of them a vector, two for each
-/// number. Else it is as `write_vectors`.
+/// number, of 16 bits each where a vector is named. Else it is as `write_vectors`.
 pub fn write_signed<K: Sink>(
     slots: usize,
     flat: &[u32],
@@ -51,7 +51,7 @@ pub fn write_signed<K: Sink>(
 ) -> Result<(), WriteFault>
     requires slots { 4 ≤ slots }
     requires even { slots % 2 ≡ 0 }
-    requires halves { All (λ n. n < 65536) flat.now }
+    requires halves { All (AreSlots Form.Signed) (vectors_of slots flat.now order.now) }
     requires there { All (λ number. (number + 1) * slots ≤ length flat.now) order.now }
     ensures ok { OnOk result
         (Appends (K.taken sink.old) (K.taken sink.new)
@@ -74,7 +74,7 @@ fn write_form<K: Sink>(
     sink: &mut K,
 ) -> Result<(), WriteFault>
     requires slots { 2 ≤ slots }
-    requires halves { AreSlots form flat.now }
+    requires halves { All (AreSlots form) (vectors_of slots flat.now order.now) }
     requires there { All (λ number. (number + 1) * slots ≤ length flat.now) order.now }
     ensures ok { OnOk result
         (Appends (K.taken sink.old) (K.taken sink.new) (form_text form (vectors_of slots flat.now order.now))) }

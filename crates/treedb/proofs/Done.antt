@@ -1,10 +1,11 @@
 -- A run whose tables have room for all its lines is not answered full.
 use Rattle.std.proofs.Common.{◌≡◌, ◌≤◌, ◌+◌, ◌-◌, ◌*◌, ◌^◌, ℕ, List, [], ◌∷◌, length, Bool, true, false, Option, Some, None, refl, sym, ap, ◌∙◌, subst, inl, inr, ⊎_elim, arith}
 use Rattle.std.specs.Prelude.{◌⊎◌, All, Ok}
-use Rattle.std.proofs.Math.Nat.{mul_assoc, mul_comm}
+use Rattle.std.proofs.Math.Nat.{mul-le-mul_right, mul_assoc, mul_comm}
 use Rattle.trace_csv.specs.Trace.{trace_of}
-use Rattle.trace_csv.specs.declared.form.Form.TheVariants.{Unsigned}
-use Rattle.trace_csv.proofs.BytesTaken.{unsigned-bytes}
+use Rattle.trace_csv.specs.declared.form.Form.{Form}
+use Rattle.trace_csv.specs.declared.form.Form.TheVariants.{Unsigned, Signed}
+use Rattle.trace_csv.proofs.BytesTaken.{signed-bytes, signed-least, unsigned-bytes}
 use Rattle.trace_csv.proofs.FewLines.{drawn_length}
 use Rattle.trace_csv.proofs.WalkLemmas.{walk-each}
 use Rattle.command_line.specs.Valid.{IsValid}
@@ -22,9 +23,9 @@ use Rattle.command_line.specs.declared.outcome.Job.TheVariants.{Insert, Distinct
 use Rattle.command_line.specs.declared.outcome.Mode.{Mode}
 use Rattle.command_line.specs.declared.outcome.Mode.TheVariants.{Plain, Compact}
 use Rattle.treedb.specs.Chosen.{is_check}
-use Rattle.treedb.specs.Lines.{IsTraceFor, drawn_lines, is_reader}
+use Rattle.treedb.specs.Lines.{IsTraceFor, drawn_lines, form_of, is_reader}
 use Rattle.treedb.specs.Outcome.{IsDoneWhere, IsValidInput, Outcome, SinkStep, SourceStep}
-use Rattle.treedb.specs.Room.{HasAutomaticSizes, HasRoomFor, IsTraceWithin}
+use Rattle.treedb.specs.Room.{HasAutomaticSizes, HasFewNodes, HasRoomFor, IsTraceWithin}
 use Rattle.treedb.specs.Run.{IsOfMode, Run, is_printed}
 use Rattle.treedb.proofs.Complete.{by_status}
 use Rattle.treedb.proofs.RoomLemmas.{automatic_room, few_pairs}
@@ -70,7 +71,7 @@ inserts c told Bench trace lines = refl
 inserts c told Check trace lines = absurd lines
 
 -- where a trace is read, its bytes are given, and where it is drawn, the choice says how
-read_of : (c : Choice) (bytes : List ℕ) (job : Job) (trace : List Vector) → is_reader job ≡ true → IsTraceFor c (Some bytes) job trace → trace_of (Unsigned c.profile) bytes ≡ Ok trace
+read_of : (c : Choice) (bytes : List ℕ) (job : Job) (trace : List Vector) → is_reader job ≡ true → IsTraceFor c (Some bytes) job trace → trace_of (form_of c) bytes ≡ Ok trace
 read_of c bytes Insert trace reads lines = lines_were c bytes trace lines
 read_of c bytes Distinct trace reads lines = lines_were c bytes trace lines
 read_of c bytes Mark trace reads lines = lines_were c bytes trace lines
@@ -89,34 +90,50 @@ module _ (c : Choice) (told : Option (List ℕ)) (trace : List Vector) (input : 
   of_first : (P : Vector → Type 0) (line : Vector) (rest : List Vector) → trace ≡ line ∷ rest → All P trace → P line
   of_first P line rest is each = subst (λ (t : List Vector). All P t) is each 0 line (omega arith)
 
-  -- there are at most 2 ^ 25 slots in all lines
-  few_slots : (slots : ℕ) (line : Vector) (rest : List Vector) → trace ≡ line ∷ rest → All (λ (v : Vector). length v ≡ slots) trace → slots * length trace ≤ 2 ^ 25
-  few_slots slots line rest is each = by (is_reader c.job) refl
-    where
-      by : (b : Bool) → is_reader c.job ≡ b → slots * length trace ≤ 2 ^ 25
-      by true reads =
-          let given = input.within reads in
-          let lines = read_of c given.0 c.job trace reads (subst (λ (o : Option (List ℕ)). IsTraceFor c o c.job trace) given.1 input.lines) in
-          let bytes = of_first (λ (v : Vector). 2 * length v * length trace ≤ length given.0 + 1) line rest is (unsigned-bytes c.profile given.0 trace lines) in
-          let size = of_first (λ (v : Vector). length v ≡ slots) line rest is each in
-          let few : 2 * slots * length trace ≤ length given.0 + 1 = rw (sym size) bytes in
-          let whole : 2 * slots * length trace ≡ 2 * (slots * length trace) = mul_assoc 2 slots (length trace) in
-          omega (arith, few, whole, given.2)
-      by false draws =
-          let drawn = drawn_for c told c.job trace draws input.lines in
-          let size = of_first (λ (v : Vector). length v ≡ slots) line rest is each in
-          let one = of_first (λ (v : Vector). length v ≡ c.slots) line rest is
-          (subst (λ (t : List Vector). All (λ (v : Vector). length v ≡ c.slots) t) (sym drawn.1) (walk-each c.lines c.slots c.values c.seed)) in
-          let many : length trace ≡ c.lines = ap (λ (t : List Vector). length t) drawn.1 ∙ drawn_length c.lines c.slots c.values c.seed valid.in_range.lines.0 in
-          let same : slots ≡ c.slots = sym size ∙ one in
-          rw (same, many) (subst (λ (n : ℕ). n ≤ 2 ^ 25) (mul_comm c.lines c.slots) (valid.together.bench_trace drawn.0))
+  module _ (slots : ℕ) (two : 2 ≤ slots) (line : Vector) (rest : List Vector) (is : trace ≡ line ∷ rest) (each : All (λ (v : Vector). length v ≡ slots) trace) where
+    size : length line ≡ slots
+    size = of_first (λ (v : Vector). length v ≡ slots) line rest is each
 
-  pub automatic_for : HasAutomaticSizes c → HasRoomFor c trace
-  automatic_for automatic slots s two each are = automatic_room c automatic slots (length trace) (by trace refl) s are
+    -- lines that are read take their bytes
+    few_read : (form : Form) (bytes : List ℕ) → trace_of form bytes ≡ Ok trace → length bytes ≤ 67108864 → HasFewNodes form trace → ((slots - 2) * length trace ≤ 2 ^ 25) × (length trace ≤ 2 ^ 24)
+    few_read (Unsigned width) bytes lines within nodes =
+        let taken = of_first (λ (v : Vector). 2 * length v * length trace ≤ length bytes + 1) line rest is (unsigned-bytes width bytes trace lines) in
+        let few : 2 * slots * length trace ≤ length bytes + 1 = rw (sym size) taken in
+        let whole : 2 * slots * length trace ≡ 2 * (slots * length trace) = mul_assoc 2 slots (length trace) in
+        few_pairs slots (length trace) two (omega (arith, few, whole, within))
+    few_read Signed bytes lines within nodes =
+        let taken : length line * length trace ≤ length bytes + 1 = of_first (λ (v : Vector). length v * length trace ≤ length bytes + 1) line rest is (signed-bytes bytes trace lines) in
+        let least : 4 ≤ length line = of_first (λ (v : Vector). 4 ≤ length v) line rest is (signed-least bytes trace lines) in
+        let many : 4 * length trace ≤ length line * length trace = mul-le-mul_right {m = 4} {n = length line} (length trace) least in
+        (nodes slots each, omega (arith, taken, many, within))
+
+    -- so do lines that are drawn
+    few_drawn : is_reader c.job ≡ false → ((slots - 2) * length trace ≤ 2 ^ 25) × (length trace ≤ 2 ^ 24)
+    few_drawn draws =
+        let drawn = drawn_for c told c.job trace draws input.lines in
+        let one = of_first (λ (v : Vector). length v ≡ c.slots) line rest is
+        (subst (λ (t : List Vector). All (λ (v : Vector). length v ≡ c.slots) t) (sym drawn.1) (walk-each c.lines c.slots c.values c.seed)) in
+        let many : length trace ≡ c.lines = ap (λ (t : List Vector). length t) drawn.1 ∙ drawn_length c.lines c.slots c.values c.seed valid.in_range.lines.0 in
+        let same : slots ≡ c.slots = sym size ∙ one in
+        let few : slots * length trace ≤ 2 ^ 25 = rw (same, many) (subst (λ (n : ℕ). n ≤ 2 ^ 25) (mul_comm c.lines c.slots) (valid.together.bench_trace drawn.0)) in
+        few_pairs slots (length trace) two few
+
+    few_lines : HasFewNodes (form_of c) trace → ((slots - 2) * length trace ≤ 2 ^ 25) × (length trace ≤ 2 ^ 24)
+    few_lines nodes = by (is_reader c.job) refl
+      where
+        by : (b : Bool) → is_reader c.job ≡ b → ((slots - 2) * length trace ≤ 2 ^ 25) × (length trace ≤ 2 ^ 24)
+        by true reads =
+            let given = input.within reads in
+            let lines = read_of c given.0 c.job trace reads (subst (λ (o : Option (List ℕ)). IsTraceFor c o c.job trace) given.1 input.lines) in
+            few_read (form_of c) given.0 lines given.2 nodes
+        by false draws = few_drawn draws
+
+  pub automatic_for : HasAutomaticSizes c → HasFewNodes (form_of c) trace → HasRoomFor c trace
+  automatic_for automatic nodes slots s two each are = automatic_room c automatic slots (length trace) (by trace refl) s are
     where
       by : (t : List Vector) → trace ≡ t → ((slots - 2) * length trace ≤ 2 ^ 25) × (length trace ≤ 2 ^ 24)
       by [] is = (rw is (omega arith), rw is (omega arith))
-      by (x ∷ t) is = few_pairs slots (length trace) two (few_slots slots x t is each)
+      by (x ∷ t) is = few_lines slots two x t is each nodes
 
 -- the run whose text was written inserted this trace, so with room for it the status is not `Full`
 run_not_full : (c : Choice) (told : Option (List ℕ)) (trace : List Vector) → IsTraceWithin c told trace → (run : Run (Some c) told)
@@ -187,7 +204,7 @@ done_with_room None source sink status outcome = λ read wrote. tt
 done_with_room (Some c) source sink status outcome = λ read wrote trace input room. done_where c source sink read wrote status outcome trace input (λ valid. room)
 
 pub done_by_default : {S K : Type 0} (offer : Option Choice) (source : SourceStep S) (sink : SinkStep K) (status : Status) → Outcome offer source sink status
-    → IsDoneWhere (λ c trace. HasAutomaticSizes c) offer source sink status
+    → IsDoneWhere (λ c trace. HasAutomaticSizes c × HasFewNodes (form_of c) trace) offer source sink status
 done_by_default None source sink status outcome = λ read wrote. tt
 done_by_default (Some c) source sink status outcome = λ read wrote trace input automatic.
-    done_where c source sink read wrote status outcome trace input (λ valid. automatic_for c (source.left source.old) trace input valid automatic)
+    done_where c source sink read wrote status outcome trace input (λ valid. automatic_for c (source.left source.old) trace input valid automatic.0 automatic.1)

@@ -3,6 +3,7 @@ pub mod SharingLemmas
 pub mod Insertions
 pub mod ReadingLemmas
 pub mod RunLemmas
+pub mod OrderLemmas
 pub mod NewLemmas
 pub mod Parts
 pub mod RoomLemmas

@@ -18,12 +18,14 @@ use Rattle.tdb_base.proofs.SumLemmas.{sum-same}
 use Rattle.tdb_base.proofs.TallyLemmas.{contained-at, line_weight, tally, zip-at}
 use Rattle.tdb_base.specs.Renamed.{renamed}
 use Rattle.tdb_base.proofs.RenameLemmas.{named-renamed}
-use Rattle.trace_csv.specs.Sorted.{IsSortedSet}
+use Rattle.std.proofs.lemmas.List.Sorted.{Contains-permutation, IsPermutation-sym}
+use Rattle.trace_csv.specs.declared.form.Form.{Form}
 use Rattle.command_line.specs.declared.outcome.Job.{Job}
 use Rattle.command_line.specs.declared.outcome.Job.TheVariants.{Insert, Distinct, Bench, Check, Mark}
-use Rattle.treedb.specs.ReadBack.{IfPrinted, IsReadBack, IsReadBy, ReadsInto, new_id, new_ids, vectors}
+use Rattle.treedb.specs.ReadBack.{IfPrinted, IsOfLines, IsReadBack, IsReadBy, ReadsInto, new_id, new_ids, vectors}
 use Rattle.treedb.specs.declared.distinct.ReadBack.{ReadBack}
 use Rattle.treedb.proofs.Insertions.{Inserts}
+use Rattle.treedb.proofs.OrderLemmas.{differ-moved}
 
 -- the vectors of the lines that are answered new, in the order of the lines
 abbrev pub news : List Vector → List Reply → List Vector
@@ -195,17 +197,21 @@ module _ (count : ℕ) (owner : ℕ → ℕ) (trace : List Vector) (replies : Li
       let b = named-is count h inserts.legal v in
       ((λ x. b.1 (a.0 x)), (λ x. a.1 (b.0 x)))
 
+  -- the lines that are new are some of the lines
+  news-among : (v : Vector) → Contains (news trace replies) v → Contains trace v
+  news-among v has =
+      let at = at-contained (news trace replies) v has in
+      let line = map-at (λ (line : Vector × Reply). line.0) (filter (λ line. is_new line.1) (zip trace replies)) v at.0 at.1 in
+      let kept = filter-at (λ (line : Vector × Reply). is_new line.1) (zip trace replies) line.0 at.0 line.1 in
+      let both = zip-at trace replies line.0 kept.0.0 kept.0.1 in
+      contained-at trace v (subst (λ (w : Vector). At trace w) line.2 (kept.0.0, both.0))
+
   -- where no line is full, the vectors of the trace are the named ones
   pub trace-named : list_any is_full replies ≡ false → (v : Vector) → Contains (named h) v ↔ Contains trace v
   trace-named none v = (there, back)
     where
       there : Contains (named h) v → Contains trace v
-      there has =
-          let at = at-contained (news trace replies) v ((news-named v).1 has) in
-          let line = map-at (λ (line : Vector × Reply). line.0) (filter (λ line. is_new line.1) (zip trace replies)) v at.0 at.1 in
-          let kept = filter-at (λ (line : Vector × Reply). is_new line.1) (zip trace replies) line.0 at.0 line.1 in
-          let both = zip-at trace replies line.0 kept.0.0 kept.0.1 in
-          contained-at trace v (subst (λ (w : Vector). At trace w) line.2 (kept.0.0, both.0))
+      there has = news-among v ((news-named v).1 has)
 
       back : Contains trace v → Contains (named h) v
       back has =
@@ -221,21 +227,29 @@ module _ (count : ℕ) (owner : ℕ → ℕ) (trace : List Vector) (replies : Li
       named-alike count h inserts.legal read (news trace replies) (new_ids replies) names
       (news-names h trace replies inserts.agrees.among.one_each (λ i v id at reply. named-line i v (r.New id) id at reply refl))
 
-  -- what was read back by the new identifiers is the named vectors in rising order
-  pub read-back : (back : ReadBack) → IsReadBy h (new_ids replies) back → IsReadBack h back
-  read-back back by =
-      let same : by.read ≡ news trace replies = read-news by.read by.names in
-      let sorted = by.rising (subst (λ (x : List Vector). AllPairs (λ u v. u ≢ v) x) (sym same) news-differ) in
-      record {
-        are_there = by.are_there;
-        set = record {
-          rising = sorted.rising;
-          same = λ v. (
-            (λ has. (news-named v).0 (subst (λ (x : List Vector). Contains x v) same ((sorted.same v).0 has))),
-            (λ has. (sorted.same v).1 (subst (λ (x : List Vector). Contains x v) (sym same) ((news-named v).1 has))),
-          );
-        };
-      }
+  -- what was read back by the new identifiers is the named vectors in their order
+  module _ (form : Form) (slots : ℕ) (back : ReadBack) (by : IsReadBy form slots h (new_ids replies) back) where
+    back-news : (v : Vector) → Contains (vectors back) v → Contains (news trace replies) v
+    back-news v has = subst (λ (x : List Vector). Contains x v) (read-news by.read by.names)
+        (Contains-permutation (vectors back) by.read v (IsPermutation-sym by.read (vectors back) by.moved) has)
+
+    news-back : (v : Vector) → Contains (news trace replies) v → Contains (vectors back) v
+    news-back v has = Contains-permutation by.read (vectors back) v by.moved (subst (λ (x : List Vector). Contains x v) (sym (read-news by.read by.names)) has)
+
+    pub read-back : IsReadBack form h back
+    read-back = record {
+      are_there = by.are_there;
+      once = differ-moved by.read (vectors back) by.moved (subst (λ (x : List Vector). AllPairs (λ u v. u ≢ v) x) (sym (read-news by.read by.names)) news-differ);
+      same = λ v. ((λ has. (news-named v).0 (back-news v has)), (λ has. news-back v ((news-named v).1 has)));
+      order = by.order;
+    }
+
+    -- and they are of the lines
+    pub read-of-lines : All (λ (v : Vector). length v ≡ slots) trace → IsOfLines trace back
+    read-of-lines each = record {
+      slots = subst (λ (n : ℕ). All (λ (v : Vector). length v ≡ n) trace) (sym by.slots_are) each;
+      among = λ v has. news-among v (back-news v has);
+    }
 
 -- each identifier of a reply that is new names a vector
 pub new-named : (count : ℕ) (owner : ℕ → ℕ) (trace : List Vector) (replies : List Reply) (workers : ℕ) (h : History) (callers : List ℕ)
@@ -276,22 +290,22 @@ if-some Check (Some b) P p = absurd p
 if-some Mark None P p = p
 if-some Mark (Some b) P p = absurd p
 
-pub read-into : (job : Job) (room result : Option ReadBack) (P : ReadBack → Type 0) (h : History) (ids : List ℕ) → IfPrinted job room P → ReadsInto h ids room result → IfPrinted job result (IsReadBy h ids)
-read-into Distinct (Some room) (Some back) P h ids p into = into
-read-into Distinct (Some room) None P h ids p into = absurd into
-read-into Distinct None result P h ids p into = absurd p
-read-into Insert (Some room) result P h ids p into = absurd p
-read-into Insert None (Some back) P h ids p into = absurd into
-read-into Insert None None P h ids p into = tt
-read-into Bench (Some room) result P h ids p into = absurd p
-read-into Bench None (Some back) P h ids p into = absurd into
-read-into Bench None None P h ids p into = tt
-read-into Check (Some room) result P h ids p into = absurd p
-read-into Check None (Some back) P h ids p into = absurd into
-read-into Check None None P h ids p into = tt
-read-into Mark (Some room) result P h ids p into = absurd p
-read-into Mark None (Some back) P h ids p into = absurd into
-read-into Mark None None P h ids p into = tt
+pub read-into : (job : Job) (room result : Option ReadBack) (P : ReadBack → Type 0) (form : Form) (slots : ℕ) (h : History) (ids : List ℕ) → IfPrinted job room P → ReadsInto form slots h ids room result → IfPrinted job result (IsReadBy form slots h ids)
+read-into Distinct (Some room) (Some back) P form slots h ids p into = into
+read-into Distinct (Some room) None P form slots h ids p into = absurd into
+read-into Distinct None result P form slots h ids p into = absurd p
+read-into Insert (Some room) result P form slots h ids p into = absurd p
+read-into Insert None (Some back) P form slots h ids p into = absurd into
+read-into Insert None None P form slots h ids p into = tt
+read-into Bench (Some room) result P form slots h ids p into = absurd p
+read-into Bench None (Some back) P form slots h ids p into = absurd into
+read-into Bench None None P form slots h ids p into = tt
+read-into Check (Some room) result P form slots h ids p into = absurd p
+read-into Check None (Some back) P form slots h ids p into = absurd into
+read-into Check None None P form slots h ids p into = tt
+read-into Mark (Some room) result P form slots h ids p into = absurd p
+read-into Mark None (Some back) P form slots h ids p into = absurd into
+read-into Mark None None P form slots h ids p into = tt
 
 pub printed-distinct : (job : Job) (back : ReadBack) (P : ReadBack → Type 0) → job ≡ Distinct → IfPrinted job (Some back) P → P back
 printed-distinct job back P is p = subst (λ (j : Job). IfPrinted j (Some back) P) is p
@@ -300,5 +314,10 @@ pub distinct-printed : (job : Job) (P : ReadBack → Type 0) → job ≡ Distinc
 distinct-printed job P is p = subst (λ (j : Job). IfPrinted j None P) is p
 
 -- callers have other numbers
-pub read-renamed : (f : ℕ → ℕ) (h : History) (back : ReadBack) → IsReadBack h back → IsReadBack (renamed f h) back
-read-renamed f h back is = record { are_there = is.are_there; set = subst (λ (x : List Vector). IsSortedSet x (vectors back)) (sym (named-renamed f h)) is.set }
+pub read-renamed : (f : ℕ → ℕ) (form : Form) (h : History) (back : ReadBack) → IsReadBack form h back → IsReadBack form (renamed f h) back
+read-renamed f form h back is = record {
+  are_there = is.are_there;
+  once = is.once;
+  same = λ v. subst (λ (x : List Vector). Contains (vectors back) v ↔ Contains x v) (sym (named-renamed f h)) (is.same v);
+  order = is.order;
+}

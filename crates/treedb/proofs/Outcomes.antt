@@ -12,7 +12,7 @@ use Rattle.tdb_base.specs.declared.reply.Status.{Status}
 use Rattle.tdb_base.specs.declared.reply.Status.TheVariants as s
 use Rattle.trace_csv.specs.Output.{TakesFront}
 use Rattle.trace_csv.specs.Trace.{trace_of}
-use Rattle.trace_csv.specs.declared.form.Form.TheVariants.{Unsigned}
+use Rattle.trace_csv.specs.declared.form.Form.{Form}
 use Rattle.trace_csv.specs.declared.refusal.TraceError.{TraceError}
 use Rattle.trace_csv.specs.declared.report.Stats.{Stats}
 use Rattle.run_check.specs.Cut.{IsCut, IsWhole}
@@ -24,7 +24,7 @@ use Rattle.command_line.specs.declared.outcome.Job.TheVariants.{Check}
 use Rattle.command_line.specs.Valid.{IsValid}
 use Rattle.command_line.specs.declared.outcome.Choice.{Choice}
 use Rattle.treedb.specs.Check.{HasTrace, IsWrongInput, Judged, PrintsVerdict, PrintsVerdictFront, WritesVerdict, ended_with_verdict, verdict_text}
-use Rattle.treedb.specs.Lines.{HasNoTrace, IsTraceFor, is_reader}
+use Rattle.treedb.specs.Lines.{HasNoTrace, IsTraceFor, form_of, is_reader}
 use Rattle.treedb.specs.Note.{status_of}
 use Rattle.treedb.specs.Answered.{AreAnswered}
 use Rattle.command_line.specs.Rules.{flag_count}
@@ -46,7 +46,7 @@ same_cut : (c : Choice) (bytes : List ℕ) (trace other : List Vector) (report r
 same_cut c bytes trace other report rest one two =
     let place : one.cut.place ≡ two.cut.place = least-same (IsCut bytes) one.cut.place two.cut.place one.cut.first two.cut.first in
     let text : one.text ≡ two.text = one.cut.text_is ∙ ap (λ (n : ℕ). take n bytes) place ∙ sym two.cut.text_is in
-    let lines : trace_of (Unsigned c.profile) two.text ≡ Ok trace = subst (λ (t : List ℕ). trace_of (Unsigned c.profile) t ≡ Ok trace) text one.lines in (
+    let lines : trace_of (form_of c) two.text ≡ Ok trace = subst (λ (t : List ℕ). trace_of (form_of c) t ≡ Ok trace) text one.lines in (
       cc (lines, two.lines),
       one.cut.report_is ∙ ap (λ (n : ℕ). drop (n + 2) bytes) place ∙ sym two.cut.report_is,
     )
@@ -62,8 +62,8 @@ wrong_none c bytes line wrong trace replies input =
     (subst (λ (r : List ℕ). IsReportOf (length trace) r replies) same.1 input.is_report))
 
 -- bytes whose trace is refused have no lines
-bad_none : (c : Choice) (error : TraceError) (bytes : List ℕ) → IsBadTrace c bytes error → HasNoTrace c bytes
-bad_none c error bytes bad = (bad.0, bad.1, none_read c bad.0 error bad.2)
+bad_none : (c : Choice) (form : Form) (error : TraceError) (bytes : List ℕ) → IsBadTrace c bytes form error → HasNoTrace c bytes
+bad_none c form error bytes bad = (bad.0, bad.1, none_read c bad.0 form error bad.2)
 
 module _ {S K : Type 0} (c : Choice) (source : SourceStep S) (sink : SinkStep K) where
   -- a run that wrote nothing
@@ -133,9 +133,9 @@ module _ {S K : Type 0} (c : Choice) (source : SourceStep S) (sink : SinkStep K)
   stopped {T = T} ended result is same ends gave fault at_end drawn reads = by ended is ends reads
     where
       by : (ended : Ended) → result ≡ Err ended → EndsReading c (source.left source.old) ended → (ended ≢ e.NoMemory → is_reader c.job ≡ true) → EndsAs (Some c) source sink ended
-      by (e.BadTrace error) is ends reads =
-          quiet (e.BadTrace error) refl (λ w. cc w) (λ u. cc u) same drawn (λ r. reads (λ m. cc m)) (λ r. cc r) (gives result s.BadTrace gave (λ t. cc t) (λ t. cc (t, is)))
-          (λ b. if_some (source.left source.old) (bad_none c error) ends) (λ b. cc b) (λ t r. at_end r (subst (λ (x : Result T Ended). ReadsToEnd x) (sym is) tt)) ends
+      by (e.BadTrace form error) is ends reads =
+          quiet (e.BadTrace form error) refl (λ w. cc w) (λ u. cc u) same drawn (λ r. reads (λ m. cc m)) (λ r. cc r) (gives result s.BadTrace gave (λ t. cc t) (λ t. cc (t, is)))
+          (λ b. if_some (source.left source.old) (bad_none c form error) ends) (λ b. cc b) (λ t r. at_end r (subst (λ (x : Result T Ended). ReadsToEnd x) (sym is) tt)) ends
       by e.NoReport is ends reads =
           quiet e.NoReport refl (λ w. cc w) (λ u. cc u) same drawn (λ r. reads (λ m. cc m)) (λ r. cc r) (gives result s.BadReport gave (λ t. cc t) (λ t. cc (t, is)))
           (λ b. cc b) (λ b. (ends.0, if_some (source.left source.old) (whole_none c) ends.1)) (λ t r. at_end r (subst (λ (x : Result T Ended). ReadsToEnd x) (sym is) tt)) ends
@@ -257,7 +257,7 @@ module _ {S K : Type 0} (c : Choice) (source : SourceStep S) (sink : SinkStep K)
   }
 
   module _ (trace : List Vector) (replies : List Reply) (treatment : Treated) (stats : Option Stats) (history : History)
-      (lines : HasLines c (source.left source.old) trace replies treatment stats history) (text : List ℕ) (writes : IsText c.job replies treatment history stats text) where
+      (lines : HasLines c (source.left source.old) trace replies treatment stats history) (text : List ℕ) (writes : IsText (form_of c) c.job replies treatment history stats text) where
     run_of : Run (Some c) (source.left source.old)
     run_of = record {
       choice = c;

@@ -34,7 +34,7 @@ module _ {T : Type 0} (c : Choice) (bytes : List ℕ) (result : Result T Ended) 
 
 -- they are all that the source told
 pub ends_reading : (c : Choice) (told : Option (List ℕ)) (bytes : List ℕ) → IfSome told (λ b. bytes ≡ b) → (ended : Ended) → RefusesInput c bytes ended → EndsReading c told ended
-ends_reading c told bytes all (e.BadTrace error) r = if_some told (λ b is. subst (λ (x : List ℕ). IsBadTrace c x error) is r) all
+ends_reading c told bytes all (e.BadTrace form error) r = if_some told (λ b is. subst (λ (x : List ℕ). IsBadTrace c x form error) is r) all
 ends_reading c told bytes all e.NoReport r = (r.0, if_some told (λ b is. subst (λ (x : List ℕ). IsWhole x) is r.1) all)
 ends_reading c told bytes all (e.WrongReport line) r = (r.0, if_some told (λ b is. subst (λ (x : List ℕ). IsWrongInput c x line) is r.1) all)
 ends_reading c told bytes all e.NoMemory r = r

@@ -3,7 +3,7 @@ use Rattle.std.proofs.Common.{ℕ, List, [], Option, length, subst}
 use Rattle.std.specs.List.{range_with_len}
 use Rattle.tdb_base.specs.Headline.{CountsDistinct, CountsNames, DifferentLinesDifferentIds, EachNewOnce, EqualLinesEqualIds}
 use Rattle.tdb_base.specs.Legal.{KeepsNames}
-use Rattle.tdb_base.specs.Lines.{AreShared}
+use Rattle.tdb_base.specs.Lines.{AreShared, named}
 use Rattle.tdb_base.proofs.HeadlineLemmas.{counts-distinct, different-lines, each-new-once, equal-lines}
 use Rattle.tdb_base.proofs.NameLemmas.{keeps-names}
 use Rattle.command_line.specs.declared.outcome.Choice.{Choice}
@@ -13,7 +13,9 @@ use Rattle.command_line.specs.declared.outcome.Job.{Job}
 use Rattle.command_line.specs.declared.outcome.Job.TheVariants.{Distinct}
 use Rattle.treedb.specs.Run.{Headline, IsText, IsTextOf, MarksAreFirstOnce, PrintsTheLines, Run}
 use Rattle.treedb.proofs.Insertions.{Inserts, first-once, insertions}
+use Rattle.treedb.specs.Lines.{form_of}
 use Rattle.treedb.proofs.NewLemmas.{trace-named}
+use Rattle.treedb.proofs.OrderLemmas.{listing-same}
 use Rattle.treedb.proofs.SharingLemmas.{shared-out}
 
 module _ (offer : Option Choice) (told : Option (List ℕ)) (run : Run offer told) where
@@ -49,16 +51,10 @@ module _ (offer : Option Choice) (told : Option (List ℕ)) (run : Run offer tol
 
   run_lines : (text : List ℕ) → IsTextOf run text → PrintsTheLines run text
   run_lines text is_text job none =
-      let printed : IsText Distinct run.replies run.treated run.history run.stats text = subst (λ (j : Job). IsText j run.replies run.treated run.history run.stats text) job is_text in
+      let form = form_of run.choice in
+      let printed : IsText form Distinct run.replies run.treated run.history run.stats text = subst (λ (j : Job). IsText form j run.replies run.treated run.history run.stats text) job is_text in
       let same = trace-named (flag_count run.choice.profile) owner run.trace run.replies run.choice.workers run.history workers inserts shared none in
-      record {
-        sorted = printed.sorted;
-        set = record {
-          rising = printed.set.rising;
-          same = λ v. ((λ has. (same v).0 ((printed.set.same v).0 has)), (λ has. (printed.set.same v).1 ((same v).1 has)));
-        };
-        written = printed.written;
-      }
+      listing-same form (named run.history) run.trace text same printed
 
   run_marks : MarksAreFirstOnce run
   run_marks = first-once run.choice run.trace run.replies run.treated run.history workers run.valid.in_range.workers.0 run.shared run.agrees

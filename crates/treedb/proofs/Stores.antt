@@ -29,12 +29,14 @@ use Rattle.treedb.specs.Answered.{CountsOf}
 use Rattle.treedb.specs.Filling.{AreInserted}
 use Rattle.command_line.specs.Rules.{flag_count}
 use Rattle.treedb.specs.Sharing.{AgreesTreated, line_entries, owner_of, treated}
-use Rattle.treedb.specs.ReadBack.{IsReadBack, IsReadBy, new_id, new_ids}
-use Rattle.treedb.specs.Stored.{Counts, AreTold, NodesAreNamed, InStore}
+use Rattle.treedb.specs.ReadBack.{IsOfLines, IsReadBack, IsReadBy, new_id, new_ids}
+use Rattle.trace_csv.specs.declared.form.Form.{Form}
+use Rattle.treedb.specs.Lines.{form_of}
+use Rattle.treedb.specs.Stored.{Counts, AreTold, NodesAreNamed, InStore, raw_in}
 use Rattle.treedb.specs.declared.distinct.ReadBack.{ReadBack}
 use Rattle.treedb.specs.declared.insertion.LineReplies.{LineReplies}
 use Rattle.treedb.proofs.Insertions.{Inserts, agrees-from-zero, insertions}
-use Rattle.treedb.proofs.NewLemmas.{named-line, new-named, read-back, read-renamed}
+use Rattle.treedb.proofs.NewLemmas.{named-line, new-named, read-back, read-of-lines, read-renamed}
 use Rattle.treedb.proofs.SharingLemmas.{shared-out}
 use Rattle.treedb.proofs.RoomLemmas.{buckets_for, none_is_full, of_new_store}
 use Rattle.treedb.specs.Room.{HaveRoom}
@@ -142,15 +144,15 @@ module _ {T : Type 0} (part : Part T) (c : Choice) (trace : List Vector) (made :
       let nodes = buckets_for (node_buckets about) ((about.slots - 2) * length trace) is.sizes.nodes is.sizes.probe is.nodes is.probe is.is_about.range.least_nodes room.nodes in
       none_is_full replies (inserted.done.ran.enough_nodes new nodes) (inserted.enough_roots room.roots)
 
-  counts_run : (s : Stats) → CountsOf part store.about (view last) s → Counts part store.about (length trace) (view last).known replies s
-  counts_run s k = record {
+  counts_run : (form : Form) (s : Stats) → CountsOf form part store.about (view last) s → Counts form part store.about (length trace) (view last).known replies s
+  counts_run form s k = record {
     indexes = (view last).made;
     once = rests.seat.sound.made_once;
     all = λ index. (λ h. rests.seat.sound.made index h, λ p. all.made index p.0 p.1);
     nodes_are = k.nodes;
     few = omega (arith, k.nodes, few_made);
     stored = k.stored ∙ (λ i. 8 * sym k.nodes i + part.bytes store.about (names_are i));
-    raw = k.raw ∙ ap (λ (n : ℕ). 4 * store.about.slots * n) names_are;
+    raw = k.raw ∙ ap (λ (n : ℕ). raw_in form (4 * store.about.slots * n)) names_are;
   }
 
   named_run : list_any is_full replies ≡ false → NodesAreNamed store.about (view last).known history
@@ -161,7 +163,7 @@ module _ {T : Type 0} (part : Part T) (c : Choice) (trace : List Vector) (made :
       let id = named_by reply.0 (none-full replies at.0 reply.0 none reply.1) in
       (of.0, id.0, named-line (flag_count c.profile) owner trace replies c.workers history (range_with_len 0 c.workers) run_inserts shared at.0 of.0 reply.0 id.0 at.1 reply.1 id.1, of.2)
 
-  pub in_store_run : (stats : Option Stats) → AreTold c.stats stats (CountsOf part store.about (view last)) → InStore part c trace replies history stats
+  pub in_store_run : (stats : Option Stats) → AreTold c.stats stats (CountsOf (form_of c) part store.about (view last)) → InStore part c trace replies history stats
   in_store_run stats told = record {
     about = store.about;
     nodes = (view last).known;
@@ -173,13 +175,17 @@ module _ {T : Type 0} (part : Part T) (c : Choice) (trace : List Vector) (made :
     barred = inserted.done.ran.full;
     never_full = never_full_run;
     named = named_run;
-    counts = told_so c.stats stats (CountsOf part store.about (view last)) (Counts part store.about (length trace) (view last).known replies) counts_run told;
+    counts = told_so c.stats stats (CountsOf (form_of c) part store.about (view last)) (Counts (form_of c) part store.about (length trace) (view last).known replies) (counts_run (form_of c)) told;
   }
 
   -- the identifiers of the replies that are new name vectors, and what is read back by them is the named ones
   pub new_are_named : All (λ reply. IfSome (new_id reply) (λ id. (v : Vector) × (name_of (view last).seen v ≡ Some id))) replies
   new_are_named = new-named (flag_count c.profile) owner trace replies c.workers (view last).seen inserted.done.ran.one_history.0 own_inserts shared
 
-  pub read_back_run : (back : ReadBack) → IsReadBy (view last).seen (new_ids replies) back → IsReadBack history back
-  read_back_run back by = read-renamed (position_of inserted.done.ran.one_history.0) (view last).seen back
-      (read-back (flag_count c.profile) owner trace replies c.workers (view last).seen inserted.done.ran.one_history.0 own_inserts shared back by)
+  pub read_back_run : (form : Form) (back : ReadBack) → IsReadBy form store.about.slots (view last).seen (new_ids replies) back → IsReadBack form history back
+  read_back_run form back by = read-renamed (position_of inserted.done.ran.one_history.0) form (view last).seen back
+      (read-back (flag_count c.profile) owner trace replies c.workers (view last).seen inserted.done.ran.one_history.0 own_inserts shared form store.about.slots back by)
+
+  pub of_lines_run : (form : Form) (back : ReadBack) → IsReadBy form store.about.slots (view last).seen (new_ids replies) back → IsOfLines trace back
+  of_lines_run form back by =
+      read-of-lines (flag_count c.profile) owner trace replies c.workers (view last).seen inserted.done.ran.one_history.0 own_inserts shared form store.about.slots back by inserted.about_is.slots

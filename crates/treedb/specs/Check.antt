@@ -8,13 +8,12 @@ use Rattle.tdb_base.specs.declared.reply.Status.{Status}
 use Rattle.tdb_base.specs.declared.reply.Status.TheVariants as s
 use Rattle.trace_csv.specs.Output.{TakesFront}
 use Rattle.trace_csv.specs.Trace.{trace_of}
-use Rattle.trace_csv.specs.declared.form.Form.TheVariants.{Unsigned}
 use Rattle.run_check.specs.Sentences.{HasHistory, IsThatVerdict, IsYesWhereHistory}
 use Rattle.run_check.specs.Text.{IsReportOf, IsWrongAt}
 use Rattle.run_check.specs.declared.verdict.Verdict.{Verdict}
 use Rattle.run_check.specs.declared.verdict.Verdict.TheVariants as v
 use Rattle.command_line.specs.declared.outcome.Choice.{Choice}
-use Rattle.treedb.specs.Lines.{IsCutInto}
+use Rattle.treedb.specs.Lines.{IsCutInto, form_of}
 use Rattle.treedb.specs.Note.{status_of}
 use Rattle.command_line.specs.Rules.{flag_count}
 use Rattle.treedb.specs.declared.ended.Ended.{Ended}
@@ -24,7 +23,7 @@ use Rattle.treedb.specs.declared.ended.Ended.TheVariants as e
 pub record HasTrace (c : Choice) (bytes : List ℕ) (trace : List Vector) (report : List ℕ) : Type 0 where
   pub text : List ℕ
   pub cut : IsCutInto bytes text report
-  pub lines : trace_of (Unsigned c.profile) text ≡ Ok trace
+  pub lines : trace_of (form_of c) text ≡ Ok trace
 
 -- and the report is that of these replies
 pub record IsInput (c : Choice) (bytes : List ℕ) (trace : List Vector) (replies : List Reply) : Type 0 where

@@ -3,6 +3,7 @@ pub mod Lines
 pub mod Room
 pub mod Check
 pub mod Stored
+pub mod Listing
 pub mod ReadBack
 pub mod Sharing
 pub mod Run

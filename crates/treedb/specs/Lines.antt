@@ -1,9 +1,11 @@
 -- The lines of a run.
-use Rattle.std.specs.Prelude.{◌≡◌, ◌+◌, ℕ, Bool, true, false, List, Option, Some, None, Result, Ok, Err}
-use Rattle.std.specs.Prelude.{IfSome, drop, take}
+use Rattle.std.specs.Prelude.{◌≡◌, ◌+◌, ◌&&◌, ◌<◌, ◌≤◌, ℕ, Bool, true, false, List, Option, Some, None}
+use Rattle.std.specs.Prelude.{Result, Ok, Err, All, IfSome, drop, if◌then◌else◌, length, take, ⊤}
 use Rattle.tdb_base.specs.History.{Vector}
 use Rattle.trace_csv.specs.Trace.{trace_of}
-use Rattle.trace_csv.specs.declared.form.Form.TheVariants.{Unsigned}
+use Rattle.trace_csv.specs.declared.form.Form.{Form}
+use Rattle.trace_csv.specs.declared.form.Form.TheVariants.{Unsigned, Signed}
+use Rattle.trace_csv.specs.Signed.{AreHalves}
 use Rattle.trace_csv.specs.Walk.{walk}
 use Rattle.run_check.specs.Cut.{IsCut}
 use Rattle.run_check.specs.Sentences.{IsLeast}
@@ -16,14 +18,6 @@ abbrev pub lines_in : {E : Type 0} → Result (List Vector) E → Option (List V
 lines_in (Ok lines) = Some lines
 lines_in (Err refusal) = None
 
--- the lines that some bytes write for a choice
-abbrev pub read_lines : Choice → List ℕ → Option (List Vector)
-read_lines c bytes = lines_in (trace_of (Unsigned c.profile) bytes)
-
--- the lines that a choice draws
-abbrev pub drawn_lines : Choice → List Vector
-drawn_lines c = walk c.lines c.slots c.values c.seed
-
 -- the job reads its input
 abbrev pub is_reader : Job → Bool
 is_reader Insert = true
@@ -31,6 +25,37 @@ is_reader Distinct = true
 is_reader Bench = false
 is_reader Check = true
 is_reader Mark = true
+
+-- how the trace of a choice writes its numbers: signed where the words say so and the job reads a trace
+unfoldable pub form_of : Choice → Form
+form_of c = if is_reader c.job && c.signed then Signed else Unsigned c.profile
+
+-- the lines that some bytes write for a choice
+abbrev pub read_lines : Choice → List ℕ → Option (List Vector)
+read_lines c bytes = lines_in (trace_of (form_of c) bytes)
+
+-- a form that can be read, and the bits of its slots
+abbrev pub IsReadable : Form → Type 0
+IsReadable (Unsigned width) = (1 ≤ width) × (width ≤ 31)
+IsReadable Signed = ⊤
+
+abbrev pub slot_bits : Form → ℕ
+slot_bits (Unsigned width) = width
+slot_bits Signed = 16
+
+-- lines of signed numbers
+pub record AreSignedLines (trace : List Vector) : Type 0 where
+  pub some : 0 < length trace
+  pub least : All (λ line. 4 ≤ length line) trace
+  pub halves : All AreHalves trace
+
+abbrev pub AreLinesOf : Form → List Vector → Type 0
+AreLinesOf (Unsigned width) trace = ⊤
+AreLinesOf Signed trace = AreSignedLines trace
+
+-- the lines that a choice draws
+abbrev pub drawn_lines : Choice → List Vector
+drawn_lines c = walk c.lines c.slots c.values c.seed
 
 -- bytes are cut into a trace and a report at the first line that is `#` alone
 pub record IsCutInto (bytes text report : List ℕ) : Type 0 where

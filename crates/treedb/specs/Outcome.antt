@@ -12,13 +12,13 @@ use Rattle.command_line.specs.declared.outcome.Choice.{Choice}
 use Rattle.command_line.specs.declared.outcome.Job.{Job}
 use Rattle.command_line.specs.declared.outcome.Job.TheVariants.{Insert, Distinct, Bench, Check, Mark}
 use Rattle.treedb.specs.Check.{IsInput, PrintsVerdict, PrintsVerdictFront}
-use Rattle.treedb.specs.Lines.{HasNoTrace, is_reader, read_lines}
+use Rattle.treedb.specs.Lines.{HasNoTrace, form_of, is_reader, read_lines}
 use Rattle.treedb.specs.Chosen.{is_check}
 use Rattle.trace_csv.specs.Input.{limit}
 use Rattle.trace_csv.specs.Output.{TakesFront}
 use Rattle.treedb.specs.Note.{has_note, note_text, status_of}
 use Rattle.treedb.specs.Reading.{EndsReading}
-use Rattle.treedb.specs.Room.{HasAutomaticSizes, HasRoomFor, IsTraceWithin}
+use Rattle.treedb.specs.Room.{HasAutomaticSizes, HasFewNodes, HasRoomFor, IsTraceWithin}
 use Rattle.treedb.specs.Run.{GivesWithin, Headline, OfPrinted, Prints, PrintsFront}
 use Rattle.treedb.specs.Run.{is_of_input, is_printed, reads_to_end}
 use Rattle.treedb.specs.declared.ended.Ended.{Ended}
@@ -26,7 +26,8 @@ use Rattle.treedb.specs.declared.ended.Ended.TheVariants as e
 
 -- what is told beside the status: why the input is refused, and how many lines are full
 abbrev pub IsDetail : (offer : Option Choice) (told old new : Option (List ℕ)) → Ended → Type 0
-IsDetail offer told old new (e.BadTrace error) = IfSome offer (λ c. EndsReading c told (e.BadTrace error))
+IsDetail offer told old new (e.BadTrace form error) =
+    IfSome offer (λ c. EndsReading c told (e.BadTrace form error))
 IsDetail offer told old new e.NoReport = IfSome offer (λ c. EndsReading c told e.NoReport)
 IsDetail offer told old new (e.WrongReport line) = IfSome offer (λ c. EndsReading c told (e.WrongReport line))
 IsDetail offer told old new e.Refuted = Unit {0}
@@ -156,9 +157,11 @@ pub record RunEnds {S K N : Type 0} (offer : Option Choice) (source : SourceStep
   pub outcome : Outcome offer source sink status
   -- that a run of a valid input comes through follows from it
   pub complete : IsComplete offer source sink status
-  -- and that none of its lines is full where the tables have room for all of them, as automatic ones do
+  -- and that none of its lines is full where the tables have room for all of them, as automatic ones do of
+  -- signed lines with few nodes and of all unsigned ones
   pub done_with_room : IsDoneWhere HasRoomFor offer source sink status
-  pub done_by_default : IsDoneWhere (λ c trace. HasAutomaticSizes c) offer source sink status
+  pub done_by_default : IsDoneWhere
+      (λ c trace. HasAutomaticSizes c × HasFewNodes (form_of c) trace) offer source sink status
   -- the note of the end, which is handed on whole; there is none for `Done` and `Refuted`
   pub note : IsNote offer source sink notes status
   pub note_settled : has_note status ≡ true → (Rose (notes.faults notes.old) (notes.faults notes.new) → ⊥)

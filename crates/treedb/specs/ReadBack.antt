@@ -1,15 +1,19 @@
 -- What was read back from a store: vectors that stand one after the other, and their numbers.
-use Rattle.std.specs.Prelude.{◌≡◌, ◌≢◌, ◌+◌, ◌*◌, ◌^◌, ◌≤◌, ℕ, List, [], ◌∷◌, ◌++◌, All, Option, Some, None}
-use Rattle.std.specs.Prelude.{length, map, vec_capacity, ⊤}
+use Rattle.std.specs.Prelude.{◌≡◌, ◌≢◌, ◌+◌, ◌*◌, ◌%◌, ◌^◌, ◌≤◌, ◌↔◌, ℕ, List, [], ◌∷◌, ◌++◌, All, Option}
+use Rattle.std.specs.Prelude.{Some, None, Contains, IsPermutation, length, map, vec_capacity, ⊤}
 use Rattle.std.specs.List.{AllPairs, filter_map, range_with_len}
+use Rattle.std.specs.List.Sorted.{IsSorted}
 use Rattle.tdb_base.specs.History.{Vector, History, name_of}
 use Rattle.tdb_base.specs.Lines.{named}
 use Rattle.tdb_base.specs.declared.reply.Reply.{Reply}
 use Rattle.tdb_base.specs.declared.reply.Reply.TheVariants as r
-use Rattle.trace_csv.specs.Sorted.{IsSortedSet}
-use Rattle.trace_csv.specs.Vectors.{vectors_of}
+use Rattle.trace_csv.specs.Signed.{AreHalves, signed_of}
+use Rattle.trace_csv.specs.declared.form.Form.{Form}
+use Rattle.trace_csv.specs.declared.form.Form.TheVariants.{Unsigned, Signed}
+use Rattle.trace_csv.specs.Vectors.{signed_text, vectors_of, vectors_text}
 use Rattle.command_line.specs.declared.outcome.Job.{Job}
 use Rattle.command_line.specs.declared.outcome.Job.TheVariants.{Insert, Distinct, Bench, Check, Mark}
+use Rattle.treedb.specs.Listing.{form_order}
 use Rattle.treedb.specs.declared.distinct.ReadBack.{ReadBack}
 
 -- the vectors, in the order of the numbers
@@ -60,25 +64,48 @@ pub record AreThere (back : ReadBack) : Type 0 where
   pub least : 2 ≤ back.slots
   pub there : All (λ number. (number + 1) * back.slots ≤ length back.flat.items) back.order.items
 
--- what was read back by these identifiers: vectors that have them as names, in rising order where they are
--- different
-pub record IsReadBy (h : History) (ids : List ℕ) (back : ReadBack) : Type 0 where
+-- what was read back by these identifiers: vectors of so many slots that have them as names, in their order
+pub record IsReadBy (form : Form) (slots : ℕ) (h : History) (ids : List ℕ) (back : ReadBack) : Type 0 where
   pub are_there : AreThere back
+  pub slots_are : back.slots ≡ slots
   pub read : List Vector
   pub names : map (name_of h) read ≡ map Some ids
-  pub rising : AllPairs (λ u v. u ≢ v) read → IsSortedSet read (vectors back)
+  pub moved : IsPermutation read (vectors back)
+  pub order : IsSorted (form_order form) (vectors back)
 
--- what is read back of a history: its named vectors in rising order
-pub record IsReadBack (h : History) (back : ReadBack) : Type 0 where
+-- what is read back of a history: its named vectors, each once, in their order
+pub record IsReadBack (form : Form) (h : History) (back : ReadBack) : Type 0 where
   pub are_there : AreThere back
-  pub set : IsSortedSet (named h) (vectors back)
+  pub once : AllPairs (λ u v. u ≢ v) (vectors back)
+  pub same : (v : Vector) → Contains (vectors back) v ↔ Contains (named h) v
+  pub order : IsSorted (form_order form) (vectors back)
+
+-- it is of the lines of a trace
+pub record IsOfLines (trace : List Vector) (back : ReadBack) : Type 0 where
+  pub slots : All (λ v. length v ≡ back.slots) trace
+  pub among : (v : Vector) → Contains (vectors back) v → Contains trace v
+
+-- vectors of signed numbers
+pub record AreSigned (back : ReadBack) : Type 0 where
+  pub least : 4 ≤ back.slots
+  pub even : back.slots % 2 ≡ 0
+  pub halves : All AreHalves (vectors back)
+
+abbrev pub AreVectorsOf : Form → ReadBack → Type 0
+AreVectorsOf (Unsigned width) back = ⊤
+AreVectorsOf Signed back = AreSigned back
+
+-- their text
+abbrev pub listed : Form → ReadBack → List ℕ
+listed (Unsigned width) back = vectors_text (vectors back)
+listed Signed back = signed_text (map signed_of (vectors back))
 
 -- where there is room the vectors of these identifiers were read back, and where there is none none were
-abbrev pub ReadsInto : History → List ℕ → (room result : Option ReadBack) → Type 0
-ReadsInto h ids (Some room) (Some back) = IsReadBy h ids back
-ReadsInto h ids (Some room) None = ⊥
-ReadsInto h ids None (Some back) = ⊥
-ReadsInto h ids None None = ⊤
+abbrev pub ReadsInto : Form → ℕ → History → List ℕ → (room result : Option ReadBack) → Type 0
+ReadsInto form slots h ids (Some room) (Some back) = IsReadBy form slots h ids back
+ReadsInto form slots h ids (Some room) None = ⊥
+ReadsInto form slots h ids None (Some back) = ⊥
+ReadsInto form slots h ids None None = ⊤
 
 -- this is told of what was read back where the job prints vectors, and for no other job anything is read back
 abbrev pub IfPrinted : Job → Option ReadBack → (ReadBack → Type 0) → Type 0

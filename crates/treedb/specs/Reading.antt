@@ -3,28 +3,30 @@ use Rattle.std.specs.Prelude.{◌≡◌, ◌≢◌, ◌<◌, ◌↔◌, ℕ, Lis
 use Rattle.std.specs.Io.KnownBytes.{Consumes}
 use Rattle.trace_csv.specs.Input.{limit}
 use Rattle.trace_csv.specs.Trace.{trace_of}
-use Rattle.trace_csv.specs.declared.form.Form.TheVariants.{Unsigned}
+use Rattle.trace_csv.specs.declared.form.Form.{Form}
 use Rattle.trace_csv.specs.declared.refusal.TraceError.{TraceError}
 use Rattle.trace_csv.specs.declared.refusal.TraceError.TheVariants as t
 use Rattle.command_line.specs.declared.outcome.Choice.{Choice}
 use Rattle.run_check.specs.Cut.{IsWhole}
 use Rattle.command_line.specs.declared.outcome.Job.TheVariants.{Check}
 use Rattle.treedb.specs.Check.{IsWrongInput}
-use Rattle.treedb.specs.Lines.{IsTraceText}
+use Rattle.treedb.specs.Lines.{IsTraceText, form_of}
 use Rattle.treedb.specs.declared.ended.Ended.{Ended}
 use Rattle.treedb.specs.declared.ended.Ended.TheVariants as e
 
--- the bytes are refused for this, the first fault of their trace
-abbrev pub IsRefusedFor : Choice → List ℕ → TraceError → Type 0
-IsRefusedFor c bytes error = (trace_of (Unsigned c.profile) bytes ≡ Err error) × (error ≢ t.NoMemory)
+-- the bytes are refused for this, the first fault of their trace in the form of the choice
+abbrev pub IsRefusedFor : Choice → List ℕ → Form → TraceError → Type 0
+IsRefusedFor c bytes form error =
+    (form ≡ form_of c) × (trace_of form bytes ≡ Err error) × (error ≢ t.NoMemory)
 
 -- the trace of an input is refused for this
-abbrev pub IsBadTrace : Choice → List ℕ → TraceError → Type 0
-IsBadTrace c bytes error = (text : List ℕ) × IsTraceText c.job bytes text × IsRefusedFor c text error
+abbrev pub IsBadTrace : Choice → List ℕ → Form → TraceError → Type 0
+IsBadTrace c bytes form error =
+    (text : List ℕ) × IsTraceText c.job bytes text × IsRefusedFor c text form error
 
 -- a run ends with a refusal of the bytes that are its input, or for want of memory
 abbrev pub RefusesInput : Choice → List ℕ → Ended → Type 0
-RefusesInput c bytes (e.BadTrace error) = IsBadTrace c bytes error
+RefusesInput c bytes (e.BadTrace form error) = IsBadTrace c bytes form error
 RefusesInput c bytes e.NoReport = (c.job ≡ Check) × IsWhole bytes
 RefusesInput c bytes (e.WrongReport line) = (c.job ≡ Check) × IsWrongInput c bytes line
 RefusesInput c bytes e.NoMemory = Unit {0}
@@ -38,7 +40,7 @@ RefusesInput c bytes e.Refuted = ⊥
 
 -- or it ends so because its source gave no input
 abbrev pub EndsReading : Choice → Option (List ℕ) → Ended → Type 0
-EndsReading c told (e.BadTrace error) = IfSome told (λ bytes. IsBadTrace c bytes error)
+EndsReading c told (e.BadTrace form error) = IfSome told (λ bytes. IsBadTrace c bytes form error)
 EndsReading c told e.NoReport = (c.job ≡ Check) × IfSome told IsWhole
 EndsReading c told (e.WrongReport line) = (c.job ≡ Check) × IfSome told (λ bytes. IsWrongInput c bytes line)
 EndsReading c told e.NoMemory = Unit {0}
@@ -53,7 +55,7 @@ EndsReading c told e.Refuted = ⊥
 -- the source was read to its end: there is what was read, or it is refused
 abbrev pub ReadsToEnd : {T : Type 0} → Result T Ended → Type 0
 ReadsToEnd (Ok lines) = Unit {0}
-ReadsToEnd (Err (e.BadTrace error)) = Unit {0}
+ReadsToEnd (Err (e.BadTrace form error)) = Unit {0}
 ReadsToEnd (Err e.NoMemory) = ⊥
 ReadsToEnd (Err e.TooMuch) = ⊥
 ReadsToEnd (Err e.ReadFault) = ⊥

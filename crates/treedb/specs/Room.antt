@@ -1,7 +1,9 @@
 -- Tables that have room for all lines of a trace, so that none is answered full.
-use Rattle.std.specs.Prelude.{◌≡◌, ◌≤◌, ◌*◌, ◌^◌, ℕ, true, List, Option, Some, None, All, length}
+use Rattle.std.specs.Prelude.{◌≡◌, ◌≤◌, ◌*◌, ◌^◌, ℕ, true, List, Option, Some, None, All, length, ⊤}
 use Rattle.tdb_base.specs.History.{Vector}
 use Rattle.trace_csv.specs.Input.{limit}
+use Rattle.trace_csv.specs.declared.form.Form.{Form}
+use Rattle.trace_csv.specs.declared.form.Form.TheVariants.{Unsigned, Signed}
 use Rattle.command_line.specs.Sizes.{AreTableSizes, node_need}
 use Rattle.command_line.specs.declared.outcome.Choice.{Choice}
 use Rattle.command_line.specs.declared.outcome.Mode.{Mode}
@@ -36,6 +38,12 @@ pub record HasAutomaticSizes (c : Choice) : Type 0 where
   pub nodes : c.nodes ≡ None
   pub roots : c.roots ≡ None
   pub probe : c.probe ≡ 4194304
+
+-- the lines have at most 2 ^ 25 inner nodes together, which unsigned lines always have
+abbrev pub HasFewNodes : Form → List Vector → Type 0
+HasFewNodes (Unsigned width) trace = ⊤
+HasFewNodes Signed trace =
+    (slots : ℕ) → All (λ v. length v ≡ slots) trace → node_need slots (length trace) ≤ 2 ^ 25
 
 -- a valid input of a choice that inserts lines, within the limit, writes these, or they are drawn
 pub record IsTraceWithin (c : Choice) (told : Option (List ℕ)) (trace : List Vector) : Type 0 where

@@ -17,7 +17,7 @@ use Rattle.root_plain.specs.Plain.{plain}
 use Rattle.trace_csv.specs.Input.{limit}
 use Rattle.trace_csv.specs.Output.{TakesFront}
 use Rattle.trace_csv.specs.Report.{marked_count, summary_of, summary_text}
-use Rattle.trace_csv.specs.Sorted.{IsSortedText}
+use Rattle.trace_csv.specs.declared.form.Form.{Form}
 use Rattle.trace_csv.specs.declared.report.Stats.{Stats}
 use Rattle.command_line.specs.Valid.{IsValid}
 use Rattle.command_line.specs.declared.outcome.Job.{Job}
@@ -25,7 +25,8 @@ use Rattle.command_line.specs.declared.outcome.Job.TheVariants.{Insert, Distinct
 use Rattle.command_line.specs.declared.outcome.Mode.{Mode}
 use Rattle.command_line.specs.declared.outcome.Mode.TheVariants.{Plain, Compact}
 use Rattle.command_line.specs.declared.outcome.Choice.{Choice}
-use Rattle.treedb.specs.Lines.{IsTraceFor}
+use Rattle.treedb.specs.Lines.{IsTraceFor, form_of}
+use Rattle.treedb.specs.Listing.{IsListing}
 use Rattle.command_line.specs.Rules.{flag_count}
 use Rattle.treedb.specs.Sharing.{AgreesTreated, IfMarked, IsTreated, TellsReplies, Treated, report_of}
 use Rattle.work_run.specs.Marks.{EachMarkedOnce}
@@ -99,12 +100,12 @@ pub record Run (offer : Option Choice) (told : Option (List ℕ)) : Type 0 where
   pub of_mode : IsOfMode choice.mode choice trace replies history stats
 
 -- the text that a job writes: the report, the summary alone, or the vectors that have names in rising order
-abbrev pub IsText : Job → List Reply → Treated → History → Option Stats → List ℕ → Type 0
-IsText Insert replies treated h stats text = text ≡ report_of treated replies (summary_of replies stats)
-IsText Distinct replies treated h stats text = IsSortedText (named h) text
-IsText Bench replies treated h stats text = text ≡ summary_text (summary_of replies stats)
-IsText Check replies treated h stats text = ⊥
-IsText Mark replies treated h stats text = text ≡ report_of treated replies (summary_of replies stats)
+abbrev pub IsText : Form → Job → List Reply → Treated → History → Option Stats → List ℕ → Type 0
+IsText form Insert replies treated h stats text = text ≡ report_of treated replies (summary_of replies stats)
+IsText form Distinct replies treated h stats text = IsListing form (named h) text
+IsText form Bench replies treated h stats text = text ≡ summary_text (summary_of replies stats)
+IsText form Check replies treated h stats text = ⊥
+IsText form Mark replies treated h stats text = text ≡ report_of treated replies (summary_of replies stats)
 
 -- where the text is a report, it is that of no other replies
 abbrev pub TellsOnly : Job → List Reply → Treated → List ℕ → Type 0
@@ -115,13 +116,14 @@ TellsOnly Check replies treated text = ⊤
 TellsOnly Mark replies treated text = TellsReplies treated replies text
 
 abbrev pub IsTextOf : {offer : Option Choice} {told : Option (List ℕ)} → Run offer told → List ℕ → Type 0
-IsTextOf run text = IsText run.choice.job run.replies run.treated run.history run.stats text
+IsTextOf run text =
+    IsText (form_of run.choice) run.choice.job run.replies run.treated run.history run.stats text
 
 -- where the job prints vectors and no line is full, they are those of the lines
 abbrev pub PrintsTheLines : {offer : Option Choice} {told : Option (List ℕ)} → Run offer told → List ℕ
     → Type 0
 PrintsTheLines run text = run.choice.job ≡ Distinct → list_any is_full run.replies ≡ false
-    → IsSortedText run.trace text
+    → IsListing (form_of run.choice) run.trace text
 
 -- the line of each named vector is marked first once, and the count of them that is printed is the count of
 -- distinct lines

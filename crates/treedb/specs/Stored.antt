@@ -1,5 +1,5 @@
 -- What stands in a store at the end of a run.
-use Rattle.std.specs.Prelude.{◌≡◌, ◌+◌, ◌*◌, ◌-◌, ◌≤◌, ◌↔◌, ℕ, Bool, true, false, List, Option, Some, None}
+use Rattle.std.specs.Prelude.{◌≡◌, ◌+◌, ◌*◌, ◌/◌, ◌-◌, ◌≤◌, ◌↔◌, ℕ, Bool, true, false, List, Option, Some, None}
 use Rattle.std.specs.Prelude.{All, length, slice_get, count_by, ⊤}
 use Rattle.std.specs.List.{list_any}
 use Rattle.tree_shape.specs.Tree.{Has}
@@ -13,11 +13,14 @@ use Rattle.pair_rule.specs.Rest.{Housed}
 use Rattle.pair_rule.specs.declared.sizes.About.{About}
 use Rattle.tree_store.specs.Vectors.{IsInTree}
 use Rattle.work_run.specs.Full.{Barred, AreOfVectors}
+use Rattle.trace_csv.specs.declared.form.Form.{Form}
+use Rattle.trace_csv.specs.declared.form.Form.TheVariants.{Unsigned, Signed}
 use Rattle.trace_csv.specs.declared.report.Stats.{Stats}
 use Rattle.command_line.specs.Sizes.{AreTableSizes}
 use Rattle.command_line.specs.declared.outcome.Choice.{Choice}
 use Rattle.command_line.specs.declared.table.TableSizes.{TableSizes}
 use Rattle.command_line.specs.Rules.{flag_count}
+use Rattle.treedb.specs.Lines.{form_of}
 use Rattle.treedb.specs.Room.{HaveRoom}
 
 -- what the tables of a choice are about, for these lines: the profile, the lines' slots, and the sizes that
@@ -35,17 +38,22 @@ pub record IsAboutChoice {T : Type 0} (part : Part T) (c : Choice) (trace : List
   pub region : about.sizes.region ≡ sizes.region
   pub probe : about.sizes.probe ≡ sizes.probe
 
+-- the bytes of the numbers that some slots keep, by the bytes of the slots: half of them where a number is two
+abbrev pub raw_in : Form → ℕ → ℕ
+raw_in (Unsigned width) bytes = bytes
+raw_in Signed bytes = bytes / 2
+
 -- the counts of a store with these nodes: the nodes' indexes, each once, and the bytes of nodes and names and
 -- of the named vectors
-pub record Counts {T : Type 0} (part : Part T) (about : About) (lines : ℕ) (nodes : List (ℕ × ℕ))
-    (replies : List Reply) (stats : Stats) : Type 0 where
+pub record Counts {T : Type 0} (form : Form) (part : Part T) (about : About) (lines : ℕ)
+    (nodes : List (ℕ × ℕ)) (replies : List Reply) (stats : Stats) : Type 0 where
   pub indexes : List ℕ
   pub once : NoRepeats indexes
   pub all : (index : ℕ) → Has index indexes ↔ ((pair : ℕ) × Has (index, pair) nodes)
   pub nodes_are : stats.nodes ≡ length indexes
   pub few : stats.nodes ≤ (about.slots - 2) * lines
   pub stored : stats.stored ≡ 8 * stats.nodes + part.bytes about (count_by is_new replies)
-  pub raw : stats.raw ≡ 4 * about.slots * count_by is_new replies
+  pub raw : stats.raw ≡ raw_in form (4 * about.slots * count_by is_new replies)
 
 -- the counts are told exactly where they are asked for
 abbrev pub AreTold : Bool → Option Stats → (Stats → Type 0) → Type 0
@@ -74,4 +82,4 @@ pub record InStore {T : Type 0} (part : Part T) (c : Choice) (trace : List Vecto
   pub never_full : HaveRoom c.mode about.slots (length trace) about_is.sizes
       → list_any is_full replies ≡ false
   pub named : list_any is_full replies ≡ false → NodesAreNamed about nodes h
-  pub counts : AreTold c.stats stats (Counts part about (length trace) nodes replies)
+  pub counts : AreTold c.stats stats (Counts (form_of c) part about (length trace) nodes replies)

@@ -7,6 +7,7 @@ use Rattle.tdb_base.specs.History.{History}
 use Rattle.tdb_base.specs.Replies.{is_full}
 use Rattle.tdb_base.specs.declared.reply.Reply.{Reply}
 use Rattle.command_line.specs.declared.outcome.Choice.{Choice}
+use Rattle.treedb.specs.Lines.{form_of}
 use Rattle.treedb.specs.Outcome.{SinkStep}
 use Rattle.treedb.specs.Run.{IsText, TellsOnly}
 use Rattle.treedb.specs.Sharing.{treated}
@@ -32,7 +33,7 @@ WritesText text replies old new ended =
 pub record WritesAnswered {K : Type 0} (c : Choice) (answered : Answered) (h : History) (sink : SinkStep K)
     (ended : Ended) : Type 0 where
   pub text : List ℕ
-  pub is_text : IsText c.job answered.inserted.replies.items (treated answered.inserted) h
+  pub is_text : IsText (form_of c) c.job answered.inserted.replies.items (treated answered.inserted) h
       answered.stats text
   pub written : WritesText text answered.inserted.replies.items
       (sink.taken sink.old) (sink.taken sink.new) ended

@@ -1,14 +1,14 @@
 //! What the job `distinct` writes: the vectors that were answered new, read back from the store by their
 //! identifiers, in rising list order.
 ghost use Rattle.std.specs.Prelude.{◌≡◌, ◌+◌, ◌*◌, ◌++◌, ◌∷◌, ◌≤◌, ◌<◌, ◌^◌, [], ℕ, All, IfOk, IfSome, List};
-ghost use Rattle.std.specs.Prelude.{Some, IsPermutation, drop, length, map, slice_get, take};
+ghost use Rattle.std.specs.Prelude.{Some, IsPermutation, MatchOption, drop, length, map, slice_get, take};
 ghost use Rattle.std.specs.Prelude.{vec_capacity};
 ghost use Rattle.std.specs.List.Sorted.{IsSortedByKey};
 ghost use Rattle.tdb_base.specs.History.{name_of};
 ghost use Rattle.tdb_base.specs.Legal.{Extends};
 ghost use Rattle.pair_rule.specs.Rest.{AtRest, view};
-ghost use Rattle.trace_csv.specs.Sorted.{list_order};
 ghost use Rattle.trace_csv.specs.Vectors.{vector_at as vector_of_number};
+ghost use Rattle.treedb.specs.Listing.{form_order, signed_in, signed_order};
 ghost use Rattle.treedb.specs.ReadBack.{Adds, AwaitsLines, HasRoomFor, IfPrinted, IsCounted, IsReadBy};
 ghost use Rattle.treedb.specs.ReadBack.{KeepsRoom, ReadsInto, new_id, new_ids, vectors};
 ghost use Rattle.tree_store.specs.Store.{Advanced};
@@ -17,7 +17,9 @@ use command_line::Job;
 use pair_nodes::RootNames;
 use pair_rule::Pass;
 use std::alloc::Global;
+use std::cmp::Ordering;
 use tdb_base::{NoMemory, Reply};
+use trace_csv::Form;
 use tree_store::{TreeStore, read_vector};
 
 /// Vectors of so many slots that stand one after the other, and their numbers in the order in which they are
@@ -44,6 +46,48 @@ fn vector_at(slots: usize, flat: &[u32], number: u32) -> &[u32]
         Some((vector, _)) => vector,
         None => rest,
     }
+}
+
+// How two vectors stand to each other by the numbers that their slots keep in a form.
+fn compare(form: Form, left: &[u32], right: &[u32]) -> Ordering
+    ensures { result ≡ form_order form left.now right.now }
+{
+    match form {
+        Form::Unsigned(_) => left.cmp(right),
+        Form::Signed => compare_signed(left, right),
+    }
+}
+
+// How two vectors of signed numbers stand to each other by their halves.
+fn compare_signed(mut left: &[u32], mut right: &[u32]) -> Ordering
+    ensures { result ≡ signed_order (signed_in left.now) (signed_in right.now) }
+{
+    loop {
+        match (next_signed(left), next_signed(right)) {
+            (None, None) => return Ordering::Equal,
+            (None, Some(_)) => return Ordering::Less,
+            (Some(_), None) => return Ordering::Greater,
+            (Some((a, left_rest)), Some((b, right_rest))) => {
+                if a != b {
+                    return a.cmp(&b);
+                }
+                left = left_rest;
+                right = right_rest;
+            }
+        }
+    }
+}
+
+// The first of the signed numbers that some slots keep, and the slots of the others.
+fn next_signed(slots: &[u32]) -> Option<(i32, &[u32])>
+    ensures first { MatchOption result (signed_in slots.now ≡ [])
+        (λ next. signed_in slots.now ≡ next.0 ∷ signed_in next.1.now) }
+    ensures fewer { IfSome result (λ next. length next.1.now < length slots.now) }
+{
+    let [high, low, rest @ ..] = slots else {
+        return None;
+    };
+    Some(((*high % 65536 * 65536 + *low % 65536).cast_signed(), rest))
 }
 
 // Reads the vector of an identifier into the slots from a place on.
@@ -171,30 +215,31 @@ impl ReadBack {
         }
     }
 
-    // Brings the numbers into list order of their vectors.
-    fn sort(&mut self)
+    // Brings the numbers into the order of their vectors in a form.
+    fn sort(&mut self, form: Form)
         requires { self.old.slots ≤ 1024 }
         ensures slots { self.new.slots ≡ self.old.slots }
         ensures flat { self.new.flat ≡ self.old.flat }
         ensures permutation { IsPermutation self.old.order.items self.new.order.items }
         ensures sorted { IsSortedByKey
-            (vector_of_number self.old.slots self.old.flat.items) list_order self.new.order.items }
+            (vector_of_number self.old.slots self.old.flat.items) (form_order form) self.new.order.items }
     {
         let slots = self.slots;
         let flat = self.flat.as_slice();
         self.order.sort_unstable_by(|a, b| {
             let left = vector_at(slots, flat, *a);
-            left.cmp(vector_at(slots, flat, *b))
+            compare(form, left, vector_at(slots, flat, *b))
         });
     }
 
-    // Reads back the vectors of the replies that are new, in rising list order.
+    // Reads back the vectors of the replies that are new, in their order in a form.
     fn fill<N: RootNames<W, F>, const W: u32, const F: u32>(
         mut self,
         names: &N,
         store: &TreeStore<N::Part, W, F>,
         pass: &mut Pass<N::Part, W, F>,
         replies: &[Reply],
+        form: Form,
     ) -> ReadBack
         requires names { N.store names.now ≡ store.now }
         requires rest { AtRest N.Part.part store.now pass.old }
@@ -202,10 +247,10 @@ impl ReadBack {
             (λ reply. IfSome (new_id reply)
             (λ id. (vector : List ℕ) × (name_of (view pass.old).seen vector ≡ Some id))) replies.now }
         requires room { AwaitsLines store.now.about.slots (length replies.now) self }
-        ensures { IsReadBy (view pass.old).seen (new_ids replies.now) result }
+        ensures { IsReadBy form store.now.about.slots (view pass.old).seen (new_ids replies.now) result }
     {
         self.add_all(names, store, pass, replies);
-        self.sort();
+        self.sort(form);
         self
     }
 }
@@ -227,8 +272,8 @@ pub fn take_room(
     }
 }
 
-/// Reads back the vectors of the replies that are new by their identifiers, in rising list order, where there
-/// is room for them.
+/// Reads back the vectors of the replies that are new by their identifiers, in their order in a form, where
+/// there is room for them.
 ///
 /// It takes no memory, so it always succeeds.
 pub fn read_back<N: RootNames<W, F>, const W: u32, const F: u32>(
@@ -237,6 +282,7 @@ pub fn read_back<N: RootNames<W, F>, const W: u32, const F: u32>(
     pass: &mut Pass<N::Part, W, F>,
     replies: &[Reply],
     room: Option<ReadBack>,
+    form: Form,
 ) -> Option<ReadBack>
     requires names { N.store names.now ≡ store.now }
     requires rest { AtRest N.Part.part store.now pass.old }
@@ -244,10 +290,10 @@ pub fn read_back<N: RootNames<W, F>, const W: u32, const F: u32>(
         (λ reply. IfSome (new_id reply)
         (λ id. (vector : List ℕ) × (name_of (view pass.old).seen vector ≡ Some id))) replies.now }
     requires room { IfSome room (AwaitsLines store.now.about.slots (length replies.now)) }
-    ensures { ReadsInto (view pass.old).seen (new_ids replies.now) room result }
+    ensures { ReadsInto form store.now.about.slots (view pass.old).seen (new_ids replies.now) room result }
 {
     match room {
-        Some(back) => Some(back.fill(names, store, pass, replies)),
+        Some(back) => Some(back.fill(names, store, pass, replies, form)),
         None => None,
     }
 }

@@ -3,7 +3,7 @@ ghost use Rattle.std.specs.Prelude.{◌≡◌};
 ghost use Rattle.treedb.specs.Note.{status_of};
 
 use tdb_base::Status;
-use trace_csv::TraceError;
+use trace_csv::{Form, TraceError};
 
 /// How a run ended, with what its note tells.
 #[derive(Clone, Copy, Debug, PartialEq, Eq)]
@@ -12,8 +12,8 @@ pub enum Ended {
     Done,
     /// The words of the command line are faulty.
     Usage,
-    /// The input is no trace, as `read_trace` refuses it; never its `NoMemory`.
-    BadTrace(TraceError),
+    /// The input is no trace in the form that the words choose: why it is refused, which is never `NoMemory`.
+    BadTrace(Form, TraceError),
     /// The input is over the limit.
     TooMuch,
     /// The text was written, and so many lines, at least one, were answered full.
@@ -40,7 +40,7 @@ impl Ended {
         match self {
             Ended::Done => Status::Done,
             Ended::Usage => Status::Usage,
-            Ended::BadTrace(_) => Status::BadTrace,
+            Ended::BadTrace(_, _) => Status::BadTrace,
             Ended::TooMuch => Status::TooMuch,
             Ended::Full(_) => Status::Full,
             Ended::ReadFault => Status::ReadFault,

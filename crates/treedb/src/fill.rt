@@ -12,6 +12,7 @@ ghost use Rattle.treedb.specs.Filling.{AreInserted, AwaitsTrace, IsPartFor};
 ghost use Rattle.treedb.specs.ReadBack.{AwaitsLines, IfPrinted};
 
 use crate::distinct::{ReadBack, read_back};
+use crate::input::form_of;
 use crate::insertion::{LineReplies, insert_plainly, insert_waiting};
 use crate::stats::stats_of;
 use crate::store::make_ready;
@@ -58,8 +59,9 @@ fn complete_replies<N: RootNames<W, F>, const W: u32, const F: u32>(
     ensures { AreAnswered choice.now trace.now result }
 {
     let _ = trace;
-    let stats = stats_of(names, store, pass, choice.stats);
-    let vectors = read_back(names, store, pass, &inserted.replies, room);
+    let form = form_of(choice);
+    let stats = stats_of(names, store, pass, form, choice.stats);
+    let vectors = read_back(names, store, pass, &inserted.replies, room, form);
     Answered {
         inserted,
         stats,

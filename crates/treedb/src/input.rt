@@ -6,32 +6,58 @@ ghost use Rattle.std.specs.Io.KnownBytes.{IsAtEnd};
 ghost use Rattle.tdb_base.specs.Causes.{Rose};
 ghost use Rattle.trace_csv.specs.Input.{limit};
 ghost use Rattle.trace_csv.specs.Trace.{trace_of};
-ghost use Rattle.trace_csv.specs.declared.form.Form.TheVariants.{Unsigned};
 ghost use Rattle.command_line.specs.Valid.{IsValid};
 ghost use Rattle.treedb.specs.Chosen.{is_check};
-ghost use Rattle.treedb.specs.Lines.{IsTraceFor, IsTraceText, drawn_lines, is_reader, read_lines};
+ghost use Rattle.treedb.specs.Lines.{AreLinesOf, IsReadable, IsTraceFor, IsTraceText, drawn_lines, form_of};
+ghost use Rattle.treedb.specs.Lines.{is_reader, read_lines, slot_bits};
 ghost use Rattle.treedb.specs.Reading.{EndsReading, GaveWithin, ReadsToEnd, RefusesInput};
 
 use crate::ended::Ended;
 use command_line::{Choice, Job};
 use std::alloc::Global;
 use tdb_base::Source;
-use trace_csv::{InError, Trace, TraceError, generate, read_all, read_trace};
+use trace_csv::{Form, InError, Trace, TraceError, generate, read_all, read_signed, read_trace};
+
+/// How the trace of a choice writes its numbers.
+pub fn form_of(choice: &Choice) -> Form
+    ensures { result ≡ form_of choice.now }
+{
+    if choice.signed && choice.job != Job::Bench {
+        return Form::Signed;
+    }
+    Form::Unsigned(choice.profile)
+}
+
+// The lines that bytes write in a form, or the first refusal.
+fn read_form(alloc: Global, form: Form, bytes: &[u8]) -> Result<Trace, TraceError>
+    requires { IsReadable form }
+    ensures lines { IfOk result (λ trace. trace_of form bytes.now ≡ Ok trace) }
+    ensures numbers { IfOk result (AreLinesOf form) }
+    ensures below { IfOk result (λ trace. All (λ line. All (λ n. n < 2 ^ slot_bits form) line) trace) }
+    ensures refused { IfErr result (λ e. e ≢ TraceError.NoMemory → trace_of form bytes.now ≡ Err e) }
+{
+    match form {
+        Form::Unsigned(width) => read_trace(alloc, bytes, width),
+        Form::Signed => read_signed(alloc, bytes),
+    }
+}
 
 /// The lines that bytes write, or how the run ends where they write none. The bytes are an input, or what
 /// stands of it before a report.
 pub fn lines_of(alloc: Global, choice: &Choice, bytes: &[u8]) -> Result<Trace, Ended>
     requires { IsValid choice.now }
-    ensures lines { IfOk result (λ trace. trace_of (Unsigned choice.now.profile) bytes.now ≡ Ok trace) }
+    ensures lines { IfOk result (λ trace. trace_of (form_of choice.now) bytes.now ≡ Ok trace) }
+    ensures numbers { IfOk result (AreLinesOf (form_of choice.now)) }
     ensures few { IfOk result (λ trace. length trace ≤ length bytes.now) }
     ensures below { IfOk result (λ trace. All (λ line. All (λ n. n < 2 ^ choice.now.profile) line) trace) }
     ensures refused { (input : List ℕ) → IsTraceText choice.now.job input bytes.now
         → IfErr result (RefusesInput choice.now input) }
 {
-    match read_trace(alloc, bytes, choice.profile) {
+    let form = form_of(choice);
+    match read_form(alloc, form, bytes) {
         Ok(trace) => Ok(trace),
         Err(TraceError::NoMemory) => Err(Ended::NoMemory),
-        Err(error) => Err(Ended::BadTrace(error)),
+        Err(error) => Err(Ended::BadTrace(form, error)),
     }
 }
 
@@ -62,6 +88,7 @@ fn read_lines<S: Source>(alloc: Global, choice: &Choice, source: &mut S) -> Resu
     requires whole { (bytes : List ℕ) → IsTraceText choice.now.job bytes bytes }
     ensures lines { IfOk result
         (λ trace. IfSome (S.left source.old) (λ bytes. read_lines choice.now bytes ≡ Some trace)) }
+    ensures numbers { IfOk result (AreLinesOf (form_of choice.now)) }
     ensures few { IfOk result (λ trace. length trace ≤ 2 ^ 32) }
     ensures below { IfOk result (λ trace. All (λ line. All (λ n. n < 2 ^ choice.now.profile) line) trace) }
     ensures gave { GaveWithin (S.left source.old) (S.left source.new) result }
@@ -81,6 +108,7 @@ fn draw_lines(alloc: Global, choice: &Choice) -> Result<Trace, Ended>
     requires valid { IsValid choice.now }
     requires bench { choice.now.job ≡ Job.Bench }
     ensures lines { IfOk result (λ trace. trace ≡ drawn_lines choice.now) }
+    ensures numbers { IfOk result (AreLinesOf (form_of choice.now)) }
     ensures few { IfOk result (λ trace. length trace ≤ 2 ^ 32) }
     ensures below { IfOk result (λ trace. All (λ line. All (λ n. n < 2 ^ choice.now.profile) line) trace) }
     ensures refused { IfErr result (λ ended. ended ≡ Ended.NoMemory) }
@@ -103,6 +131,7 @@ pub fn take_lines<S: Source>(alloc: Global, choice: &Choice, source: &mut S) -> 
     requires valid { IsValid choice.now }
     requires inserts { is_check choice.now.job ≡ false }
     ensures lines { IfOk result (IsTraceFor choice.now (S.left source.old) choice.now.job) }
+    ensures numbers { IfOk result (AreLinesOf (form_of choice.now)) }
     ensures few { IfOk result (λ trace. length trace ≤ 2 ^ 32) }
     ensures below { IfOk result (λ trace. All (λ line. All (λ n. n < 2 ^ choice.now.profile) line) trace) }
     ensures gave { GaveWithin (S.left source.old) (S.left source.new) result }

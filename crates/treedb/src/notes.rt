@@ -10,7 +10,7 @@ use crate::ended::Ended;
 use crate::line_text::LineText;
 use command_line::USAGE;
 use tdb_base::Sink;
-use trace_csv::{TraceError, write_text};
+use trace_csv::{Form, TraceError, write_text};
 
 /// Writes the note of a run's end, and hands it on. `Done` and `Refuted` have none.
 ///
@@ -26,7 +26,7 @@ pub fn write_note<N: Sink>(ended: &Ended, notes: &mut N)
 {
     match ended {
         Ended::Usage => put_note(USAGE.as_bytes(), notes),
-        Ended::BadTrace(error) => put_note(trace_text(*error).as_slice(), notes),
+        Ended::BadTrace(form, error) => put_note(trace_text(*form, *error).as_slice(), notes),
         Ended::TooMuch => put_note(b"treedb: input is over 67108864 bytes\n", notes),
         Ended::Full(lines) => put_note(full_text(*lines).as_slice(), notes),
         Ended::ReadFault => put_note(b"treedb: read fault\n", notes),
@@ -50,21 +50,41 @@ fn put_note<N: Sink>(text: &[u8], notes: &mut N)
     let _ = write_text(text, notes);
 }
 
-fn trace_text(error: TraceError) -> LineText
-    ensures { result ≡ note.trace_text error }
+// What is said of a number that is out of its range.
+fn range_text(form: Form) -> &'static [u8]
+    ensures text { result.now ≡ note.range_text form }
+    ensures short { length result.now ≤ 40 }
+{
+    match form {
+        Form::Unsigned(_) => b" is too big\n",
+        Form::Signed => b" is out of range\n",
+    }
+}
+
+// What is said of a first record with too few fields, or too many.
+fn fields_text(form: Form) -> &'static [u8]
+    ensures text { result.now ≡ note.fields_text form }
+    ensures short { length result.now ≤ 40 }
+{
+    match form {
+        Form::Unsigned(_) => b" fields, 2 to 1024 are allowed\n",
+        Form::Signed => b" fields, 2 to 512 are allowed\n",
+    }
+}
+
+fn trace_text(form: Form, error: TraceError) -> LineText
+    ensures { result ≡ note.trace_text form error }
 {
     match error {
         TraceError::NotANumber(row, field) => field_text(row, field, b" is not a number\n"),
-        TraceError::TooBig(row, field) => field_text(row, field, b" is too big\n"),
+        TraceError::TooBig(row, field) => field_text(row, field, range_text(form)),
         TraceError::Ragged(row, fields, first) => {
             let mut text = count_text(row, fields, b" fields, the first has ");
             text.add_number(first);
             text.add(b"\n");
             text
         }
-        TraceError::Length(row, fields) => {
-            count_text(row, fields, b" fields, 2 to 1024 are allowed\n")
-        }
+        TraceError::Length(row, fields) => count_text(row, fields, fields_text(form)),
         TraceError::NoRecords => LineText::of(b"treedb: no records\n"),
         TraceError::NoMemory => LineText::of(b"treedb: no memory\n"),
     }

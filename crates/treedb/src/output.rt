@@ -7,22 +7,23 @@ ghost use Rattle.tdb_base.specs.Replies.{is_new};
 ghost use Rattle.trace_csv.specs.OneReport.{HasWordId};
 ghost use Rattle.trace_csv.specs.Output.{TakesFront};
 ghost use Rattle.trace_csv.specs.Report.{summary_of, summary_text};
-ghost use Rattle.trace_csv.specs.Vectors.{vectors_text};
 ghost use Rattle.treedb.specs.Chosen.{is_check};
-ghost use Rattle.treedb.specs.ReadBack.{AreThere, IfPrinted, IsReadBack, vectors};
+ghost use Rattle.treedb.specs.Lines.{form_of};
+ghost use Rattle.treedb.specs.ReadBack.{AreThere, AreVectorsOf, IfPrinted, IsReadBack, listed};
 ghost use Rattle.treedb.specs.Sharing.{HasOneEach, IsTreated, report_of, treated};
 ghost use Rattle.treedb.specs.Writing.{WritesAnswered, WritesText, ended_with};
 
 use crate::distinct::ReadBack;
 use crate::ended::Ended;
 use crate::fill::Answered;
+use crate::input::form_of;
 use crate::insertion::{Beside, LineReplies};
 use crate::stats::summary;
 use command_line::{Choice, Job};
 use tdb_base::{Reply, Sink};
 use trace_csv::{
-    Stats, Summary, WriteFault, write_drawn, write_marks, write_report, write_summary,
-    write_vectors,
+    Form, Stats, Summary, WriteFault, write_drawn, write_marks, write_report, write_signed,
+    write_summary, write_vectors,
 };
 
 // How a run ends whose text was written.
@@ -94,17 +95,33 @@ fn write_counts<K: Sink>(replies: &[Reply], stats: Option<Stats>, sink: &mut K) 
     }
 }
 
-// Writes the vectors that were read back, a line for each. The sink is finished then.
+// Writes the vectors that were read back, a line for each, in a form. The sink is finished then.
 //
 // `WriteFault` comes only where the sink's count of faults rose, and leaves a front of the text.
-fn write_distinct<K: Sink>(read: &ReadBack, replies: &[Reply], sink: &mut K) -> Ended
-    requires { AreThere read.now }
-    ensures written { WritesText (vectors_text (vectors read.now)) replies.now (K.taken sink.old)
+fn write_listing<K: Sink>(form: Form, read: &ReadBack, sink: &mut K) -> Result<(), WriteFault>
+    requires there { AreThere read.now }
+    requires numbers { AreVectorsOf form read.now }
+    ensures ok { OnOk result (Appends (K.taken sink.old) (K.taken sink.new) (listed form read.now)) }
+    ensures settled { OnOk result (K.settled sink.new ≡ true) }
+    ensures front { OnErr result (TakesFront (K.taken sink.old) (K.taken sink.new) (listed form read.now)) }
+    ensures cause { HasCause (K.faults sink.old) (K.faults sink.new) result }
+{
+    match form {
+        Form::Unsigned(_) => write_vectors(read.slots, &read.flat, &read.order, sink),
+        Form::Signed => write_signed(read.slots, &read.flat, &read.order, sink),
+    }
+}
+
+// Writes the vectors that were read back, and how the run ends.
+fn write_distinct<K: Sink>(form: Form, read: &ReadBack, replies: &[Reply], sink: &mut K) -> Ended
+    requires there { AreThere read.now }
+    requires numbers { AreVectorsOf form read.now }
+    ensures written { WritesText (listed form read.now) replies.now (K.taken sink.old)
         (K.taken sink.new) result }
     ensures settled { result ≢ Ended.WriteFault → K.settled sink.new ≡ true }
     ensures fault { result ≡ Ended.WriteFault → Rose (K.faults sink.old) (K.faults sink.new) }
 {
-    match write_vectors(read.slots, &read.flat, &read.order, sink) {
+    match write_listing(form, read, sink) {
         Ok(()) => ended(replies),
         Err(WriteFault) => Ended::WriteFault,
     }
@@ -119,8 +136,10 @@ pub fn write_answered<K: Sink>(choice: &Choice, answered: &Answered, sink: &mut 
     requires workers { choice.now.workers ≤ 64 }
     requires shared { IsTreated choice.now (length answered.now.inserted.replies.items)
         answered.now.inserted.replies.items (treated answered.now.inserted) }
-    requires read { (h : History) × IfPrinted choice.now.job answered.now.vectors (IsReadBack h) }
-    ensures { (h : History) → IfPrinted choice.now.job answered.now.vectors (IsReadBack h)
+    requires read { (h : History) × IfPrinted choice.now.job answered.now.vectors
+        (IsReadBack (form_of choice.now) h) }
+    requires numbers { IfPrinted choice.now.job answered.now.vectors (AreVectorsOf (form_of choice.now)) }
+    ensures { (h : History) → IfPrinted choice.now.job answered.now.vectors (IsReadBack (form_of choice.now) h)
         → WritesAnswered choice.now answered.now h
         (record { taken = K.taken; faults = K.faults; settled = K.settled; old = sink.old; new = sink.new })
         result }
@@ -128,7 +147,9 @@ pub fn write_answered<K: Sink>(choice: &Choice, answered: &Answered, sink: &mut 
     match choice.job {
         Job::Insert | Job::Mark => write_replies(&answered.inserted, answered.stats, sink),
         Job::Distinct => match &answered.vectors {
-            Some(vectors) => write_distinct(vectors, &answered.inserted.replies, sink),
+            Some(vectors) => {
+                write_distinct(form_of(choice), vectors, &answered.inserted.replies, sink)
+            }
             None => unreachable!(),
         },
         Job::Bench => write_counts(&answered.inserted.replies, answered.stats, sink),

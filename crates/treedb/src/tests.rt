@@ -11,6 +11,7 @@ mod faults;
 mod marks;
 mod notes;
 mod schedules;
+mod signed;
 
 use crate::run::{run, run_plain};
 use command_line::USAGE;

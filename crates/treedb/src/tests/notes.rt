@@ -5,10 +5,13 @@ use crate::notes::write_note;
 use run_check::ReportError;
 use std::test::Fail;
 use tdb_base::MemSink;
-use trace_csv::TraceError;
+use trace_csv::{Form, TraceError};
+
+// The form of a run that isn't signed.
+const UNSIGNED: Form = Form::Unsigned(28);
 
 // Each end of a run, with its exit status and its note.
-const NOTES: [(Ended, u8, &str); 17] = [
+const NOTES: [(Ended, u8, &str); 22] = [
     (Ended::Done, 0, ""),
     (
         Ended::Usage,
@@ -16,36 +19,61 @@ const NOTES: [(Ended, u8, &str); 17] = [
         "usage: treedb insert|distinct|bench|check|mark [--mode plain|compact] [--profile 16|28|31]
   [--workers N] [--block N] [--nodes D] [--roots R] [--region S] [--probe P]
   [--stats] [--lines N] [--slots K] [--values M] [--seed S]
-  [--claims] [--flag B]
+  [--signed] [--claims] [--flag B]
 ",
     ),
     (
-        Ended::BadTrace(TraceError::NotANumber(2, 3)),
+        Ended::BadTrace(UNSIGNED, TraceError::NotANumber(2, 3)),
         3,
         "treedb: record 2 field 3 is not a number\n",
     ),
     (
-        Ended::BadTrace(TraceError::TooBig(4, 1)),
+        Ended::BadTrace(UNSIGNED, TraceError::TooBig(4, 1)),
         3,
         "treedb: record 4 field 1 is too big\n",
     ),
     (
-        Ended::BadTrace(TraceError::Ragged(12, 3, 1000)),
+        Ended::BadTrace(UNSIGNED, TraceError::Ragged(12, 3, 1000)),
         3,
         "treedb: record 12 has 3 fields, the first has 1000\n",
     ),
     (
-        Ended::BadTrace(TraceError::Ragged(u64::MAX, u64::MAX, u64::MAX)),
+        Ended::BadTrace(UNSIGNED, TraceError::Ragged(u64::MAX, u64::MAX, u64::MAX)),
         3,
         "treedb: record 18446744073709551615 has 18446744073709551615 fields, the first has 18446744073709551615\n",
     ),
     (
-        Ended::BadTrace(TraceError::Length(1, 1025)),
+        Ended::BadTrace(UNSIGNED, TraceError::Length(1, 1025)),
         3,
         "treedb: record 1 has 1025 fields, 2 to 1024 are allowed\n",
     ),
     (
-        Ended::BadTrace(TraceError::NoRecords),
+        Ended::BadTrace(UNSIGNED, TraceError::NoRecords),
+        3,
+        "treedb: no records\n",
+    ),
+    (
+        Ended::BadTrace(Form::Signed, TraceError::NotANumber(2, 3)),
+        3,
+        "treedb: record 2 field 3 is not a number\n",
+    ),
+    (
+        Ended::BadTrace(Form::Signed, TraceError::TooBig(4, 1)),
+        3,
+        "treedb: record 4 field 1 is out of range\n",
+    ),
+    (
+        Ended::BadTrace(Form::Signed, TraceError::Ragged(12, 3, 500)),
+        3,
+        "treedb: record 12 has 3 fields, the first has 500\n",
+    ),
+    (
+        Ended::BadTrace(Form::Signed, TraceError::Length(1, 513)),
+        3,
+        "treedb: record 1 has 513 fields, 2 to 512 are allowed\n",
+    ),
+    (
+        Ended::BadTrace(Form::Signed, TraceError::NoRecords),
         3,
         "treedb: no records\n",
     ),

@@ -1,6 +1,6 @@
-use Rattle.std.proofs.Common.{◌≡◌, ◌∙◌, arith, ◌+◌, ◌++◌, [], take, drop, get_or, ap, sym}
-use Rattle.std.proofs.lemmas.List.{append-nil, take_all}
-use Rattle.trace_csv.specs.Vectors.{form_line, form_text, vector_at, vectors_of}
+use Rattle.std.proofs.Common.{◌≡◌, ◌∙◌, ◌<◌, arith, ◌+◌, ◌++◌, [], length, take, drop, get_or, ap, subst, sym}
+use Rattle.std.proofs.lemmas.List.{append-nil, get_or-map, length-map, take_all}
+use Rattle.trace_csv.specs.Vectors.{AreSlots, form_line, form_text, vector_at, vectors_of}
 use Rattle.trace_csv.proofs.OutputLemmas.{on_err}
 use Rattle.trace_csv.proofs.PageLemmas.{carries-front, carries-more, carries-stop}
 use Rattle.trace_csv.proofs.VectorsLemmas.{vectors-more, vectors-split}
@@ -42,3 +42,18 @@ returns-in_err-close-clause-front g c =
     let all : take c.loop-number.number-index c.args.order.now ≡ c.args.order.now = take_all c.loop-number.number-index c.args.order.now (omega arith) in
     let carried = rw all at c.loop-number.invariant.carried in
     on_err _ _ (carries-stop _ _ _ [] _ text [] text carried c.in_err-close.ensures.front (sym (append-nil text)))
+
+pub add_vector-requires : goal.add_vector-requires
+add_vector-requires g c =
+    let form = c.args.form in
+    let slots = c.args.slots in
+    let flat = c.args.flat.now in
+    let order = c.args.order.now in
+    let i = c.loop-number.number-index in
+    let vector : c.split_at-in-loop-number.result.0.now ≡ vector_at slots flat (get_or order i 0) =
+    c.split_at-in-loop-number.ensures.front ∙ ap (take slots) c.split_at.ensures.back in
+    let there : i < length order = c.loop-number-test.true in
+    let inside : i < length (vectors_of slots flat order) = (let size = length-map order (vector_at slots flat) in omega (arith, size, there)) in
+    let here : AreSlots form (vector_at slots flat (get_or order i 0)) = subst (AreSlots form) (get_or-map (vector_at slots flat) order i 0 [] there) (c.requires.halves i [] inside) in
+    let long : length c.split_at-in-loop-number.result.0.now ≡ slots = c.split_at-in-loop-number.ensures.front_len in
+    record { some = omega (arith, long, c.requires.slots); halves = subst (AreSlots form) (sym vector) here }

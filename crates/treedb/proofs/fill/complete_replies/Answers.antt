@@ -3,9 +3,13 @@ use Rattle.std.specs.Prelude.{All, IfSome}
 use Rattle.tdb_base.specs.History.{Vector, name_of}
 use Rattle.tdb_base.specs.declared.reply.Reply.{Reply}
 use Rattle.pair_rule.specs.Rest.{view}
-use Rattle.treedb.specs.ReadBack.{AwaitsLines, IsReadBack, IsReadBy, ReadsInto, new_id, new_ids}
+use Rattle.treedb.specs.ReadBack.{AwaitsLines, IsOfLines, IsReadBack, IsReadBy, ReadsInto, new_id, new_ids}
 use Rattle.treedb.proofs.NewLemmas.{if-printed, if-some, read-into}
-use Rattle.treedb.proofs.Stores.{agrees_run, history, in_store_run, new_are_named, read_back_run}
+use Rattle.trace_csv.specs.declared.form.Form.{Form}
+use Rattle.treedb.specs.Answered.{CountsOf}
+use Rattle.treedb.specs.Lines.{form_of}
+use Rattle.treedb.specs.Stored.{AreTold}
+use Rattle.treedb.proofs.Stores.{agrees_run, history, in_store_run, new_are_named, of_lines_run, read_back_run}
 use Rattle.treedb.proofs.fill.complete_replies.Goals as goal
 
 pub read_back-vectors-requires : goal.read_back-vectors-requires
@@ -36,14 +40,22 @@ returns g c =
     let replies = made.replies.items in
     let some = c.requires.valid.in_range.workers.0 in
     let run = history part choice trace made store last some c.requires.inserted c.requires.rest in
-    let into = subst (λ (x : List Reply). ReadsInto (view last).seen (new_ids x) c.args.room c.read_back-vectors.result) c.deref.ensures.value c.read_back-vectors.ensures in
-    let read = read-into choice.job c.args.room c.read_back-vectors.result (AwaitsLines store.about.slots (length trace)) (view last).seen (new_ids replies) c.requires.room into in
+    let form = form_of choice in
+    let slots = store.about.slots in
+    let same = c.form_of-form.ensures in
+    let result = c.read_back-vectors.result in
+    let stats = subst (λ (f : Form). AreTold choice.stats c.stats_of-stats.result (CountsOf f part store.about (view last))) same c.stats_of-stats.ensures in
+    let by_form = subst (λ (f : Form). ReadsInto f slots (view last).seen (new_ids c.deref.result.now) c.args.room result) same c.read_back-vectors.ensures in
+    let into = subst (λ (x : List Reply). ReadsInto form slots (view last).seen (new_ids x) c.args.room result) c.deref.ensures.value by_form in
+    let read = read-into choice.job c.args.room result (AwaitsLines slots (length trace)) form slots (view last).seen (new_ids replies) c.requires.room into in
     record {
       history = run;
       shared = c.requires.inserted.done.shared;
       agrees = agrees_run part choice trace made store last some c.requires.inserted c.requires.rest;
       of_mode = c.requires.of_mode.kept trace replies run c.stats_of-stats.result
-          (in_store_run part choice trace made store last some c.requires.inserted c.requires.rest c.stats_of-stats.result c.stats_of-stats.ensures);
-      vectors = if-printed choice.job c.read_back-vectors.result (IsReadBy (view last).seen (new_ids replies)) (IsReadBack run)
-          (read_back_run part choice trace made store last some c.requires.inserted c.requires.rest) read;
+          (in_store_run part choice trace made store last some c.requires.inserted c.requires.rest c.stats_of-stats.result stats);
+      vectors = if-printed choice.job result (IsReadBy form slots (view last).seen (new_ids replies)) (IsReadBack form run)
+          (read_back_run part choice trace made store last some c.requires.inserted c.requires.rest form) read;
+      of_lines = if-printed choice.job result (IsReadBy form slots (view last).seen (new_ids replies)) (IsOfLines trace)
+          (of_lines_run part choice trace made store last some c.requires.inserted c.requires.rest form) read;
     }

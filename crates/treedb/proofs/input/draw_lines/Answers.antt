@@ -1,6 +1,13 @@
 use Rattle.std.proofs.Common.{ℕ, List, length, ap, arith}
 use Rattle.trace_csv.proofs.FewLines.{drawn_length}
+use Rattle.std.proofs.Common.{subst, sym}
+use Rattle.trace_csv.specs.declared.form.Form.{Form}
+use Rattle.treedb.specs.Lines.{AreLinesOf}
+use Rattle.treedb.proofs.LineLemmas.{drawn-form}
 use Rattle.treedb.proofs.input.draw_lines.Goals as goal
+
+pub returns-in-Ok-clause-numbers : goal.returns-in-Ok-clause-numbers
+returns-in-Ok-clause-numbers c = subst (λ (f : Form). AreLinesOf f c.in-Ok.trace) (sym (drawn-form c.args.choice.now c.requires.bench)) tt
 
 pub returns-in-Ok-clause-few : goal.returns-in-Ok-clause-few
 returns-in-Ok-clause-few c =

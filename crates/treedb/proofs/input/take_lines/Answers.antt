@@ -13,6 +13,7 @@ returns-then-eq g c =
     let job : choice.job ≡ Bench = search rules in
     record {
       lines = drawn_trace choice told c.draw_lines.result job drawn.lines;
+      numbers = drawn.numbers;
       few = drawn.few;
       below = drawn.below;
       gave = drawn_gave told c.draw_lines.result drawn.refused;
@@ -36,6 +37,7 @@ returns g c =
     let other : choice.job ≢ Bench = search rules in
     record {
       lines = if_ok c.read_lines.result (λ trace lines. reads_trace choice told trace choice.job c.requires.inserts other lines) read.lines;
+      numbers = read.numbers;
       few = read.few;
       below = read.below;
       gave = read.gave;

@@ -2,7 +2,10 @@ use Rattle.std.proofs.Common.{◌≢◌, ℕ, refl, rules, subst, sym}
 use Rattle.std.specs.Prelude.{Ok, Err}
 use Rattle.command_line.specs.declared.outcome.Job.TheVariants.{Check}
 use Rattle.treedb.specs.Sharing.{IsTreated, treated}
-use Rattle.treedb.proofs.LineLemmas.{not_check}
+use Rattle.treedb.specs.Lines.{form_of}
+use Rattle.treedb.specs.ReadBack.{AreVectorsOf, IsOfLines}
+use Rattle.treedb.proofs.LineLemmas.{not_check, vectors-of-form}
+use Rattle.treedb.proofs.NewLemmas.{if-printed}
 use Rattle.treedb.proofs.Outcomes.{answered_end, has_input, out_of_memory, stopped}
 use Rattle.treedb.proofs.job.do_job.Goals as goal
 
@@ -31,6 +34,8 @@ write_answered-requires g c =
       workers = c.requires.valid.in_range.workers.1;
       shared = subst (λ (n : ℕ). IsTreated c.args.choice.now n c.in-Ok-insert_lines.answered.inserted.replies.items (treated c.in-Ok-insert_lines.answered.inserted)) (sym answered.agrees.among.one_each) answered.shared;
       read = (answered.history, answered.vectors);
+      numbers = if-printed c.args.choice.now.job c.in-Ok-insert_lines.answered.vectors (IsOfLines c.in-Ok.trace) (AreVectorsOf (form_of c.args.choice.now))
+          (λ back. vectors-of-form (form_of c.args.choice.now) c.in-Ok.trace back c.in-Ok.ensures.numbers) answered.of_lines;
     }
 
 pub returns : goal.returns
