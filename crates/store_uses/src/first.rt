@@ -9,7 +9,7 @@ use tree_store::{CreateError, PlainStore};
 
 /// Inserts a state of three numbers into a new store with room for a million, and reads it back.
 pub fn insert_and_read(alloc: Global) -> Result<[u32; 3], CreateError>
-    ensures same { IfOk result (λ read. read.items ≡ 7 ∷ 0 ∷ 1 ∷ []) }
+    ensures same { IfOk result (λ read. read ≡ 7 ∷ 0 ∷ 1 ∷ []) }
 {
     let sizes = Sizes {
         nodes: 21,

@@ -104,7 +104,38 @@ fn find_error<H: Wait>(
     Err(SearchError::TooManySteps)
 }
 
-// The states from the first one to that at this place, each read back by its identifier.
+// Reads the states from the one at this place back to the first, each by its identifier.
+fn read_back(
+    store: &Store,
+    pass: &mut Pass,
+    found: &[Reached],
+    last: usize,
+    path: &mut Vec<State>,
+) -> Result<(), SearchError>
+    requires slots { store.now.about.slots ≡ 5 }
+    requires rest { AtRest (compact 28 7) store.now pass.old }
+    requires found { All (λ r. KnowsName pass.old r.id) found.now }
+    requires stored { All (IsStored pass.old) path.old.items }
+    ensures rest { AtRest (compact 28 7) store.now pass.new }
+    ensures stored { IfOk result (λ done. All (IsStored pass.new) path.new.items) }
+{
+    let mut at = last;
+    for _ in 0..found.len() {
+        let Some(reached) = found.get(at).copied() else {
+            return Ok(());
+        };
+        let mut state = START;
+        store.read(pass, reached.id, &mut state);
+        path.push(state)?;
+        if at == 0 {
+            return Ok(());
+        }
+        at = reached.from;
+    }
+    Ok(())
+}
+
+// The states from the first one to that at this place.
 fn read_path(
     alloc: Global,
     store: &Store,
@@ -119,19 +150,7 @@ fn read_path(
     ensures stored { IfOk result (λ path. All (IsStored pass.new) path.items) }
 {
     let mut path = Vec::new(alloc);
-    let mut at = last;
-    for _ in 0..found.len() {
-        let Some(reached) = found.get(at).copied() else {
-            break;
-        };
-        let mut state = START;
-        store.read(pass, reached.id, &mut state);
-        path.push(state)?;
-        if at == 0 {
-            break;
-        }
-        at = reached.from;
-    }
+    read_back(store, pass, found, last, &mut path)?;
     path.reverse();
     Ok(path)
 }

@@ -2,7 +2,7 @@ use Rattle.std.proofs.Common.{◌≡◌, All}
 use Rattle.pair_rule.specs.Rest.{AtRest, KnowsName}
 use Rattle.region_root.specs.Compact.{compact}
 use Rattle.store_uses.specs.Known.{IsStored}
-use Rattle.store_uses.proofs.path.read_path.Given as goal
+use Rattle.store_uses.proofs.path.read_back.Given as goal
 
 abbrev pub invariant-loop : goal.invariant-loop
 invariant-loop l = record {
