@@ -9,7 +9,7 @@
  * except by these calls.
  *
  * THREADS. A handle is used by one thread at a time. Handles of one store may be used at the same time by
- * different threads, without any lock: no call waits for another. A handle may pass from one thread to another
+ * different threads, without any lock: no call waits for another. A handle may go from one thread to another
  * if a lock, the start or end of a thread, or a sequentially consistent atomic orders that. No call may be
  * made from a signal handler, nor in a child that a process with threads has forked.
  *
@@ -18,7 +18,7 @@
  * place of its two tables, and twice as much while it is created. It does not grow.
  *
  * CODES. A call returns a code of `treedb_code`: 0 or above if it did what was asked, below 0 for each reason
- * why it did not. A call that returns less than 0 gives no identifier and sets no flag, writes nothing through
+ * why it did not. A call that returns less than 0 gives no identifier, sets no flag, writes nothing through
  * its pointers, and leaves the handle as good as before.
  *
  * WHAT IS NOT TESTED, so the caller has to ensure it: that a pointer points to as many numbers as the call
@@ -38,7 +38,7 @@ extern "C" {
 /* The version that this header describes: 10000 * major + 100 * minor + patch. */
 #define TREEDB_VERSION 10000
 
-/* A handle. Its fields belong to the library, but `live` may be read: whether the handle stands for a store. */
+/* A handle. Its fields belong to the library, but `live` may be read: whether it stands for a store. */
 typedef struct treedb {
   void *at;
   bool live;
@@ -142,13 +142,13 @@ static inline int32_t treedb_find(treedb *handle, uint64_t id, uint32_t *vector,
 }
 
 /* Sets a flag, numbered from 0, of the vector that has this identifier, in one atomic step: TREEDB_WAS_CLEAR
- * for the one call that changed it, TREEDB_WAS_SET for every other. Else, the first of these that holds:
+ * for the one call that changed it, TREEDB_WAS_SET if it was set. Else, the first of these that holds:
  * TREEDB_NULL, TREEDB_NO_HANDLE, TREEDB_BAD_FLAG, TREEDB_NO_NAME. */
 static inline int32_t treedb_set_flag(treedb *handle, uint64_t id, uint32_t flag) {
   return handle ? treedb_c_set_flag(handle, id, flag) : TREEDB_NULL;
 }
 
-/* Clears a flag in the same way: TREEDB_WAS_SET for the one call that changed it, else TREEDB_WAS_CLEAR. */
+/* Clears a flag in the same way: TREEDB_WAS_SET for the one call that changed it, TREEDB_WAS_CLEAR if it was clear. */
 static inline int32_t treedb_clear_flag(treedb *handle, uint64_t id, uint32_t flag) {
   return handle ? treedb_c_clear_flag(handle, id, flag) : TREEDB_NULL;
 }
@@ -165,8 +165,8 @@ static inline int32_t treedb_counts(treedb *handle, treedb_sums *sums) {
   return handle && sums ? treedb_c_counts(handle, sums) : TREEDB_NULL;
 }
 
-/* Frees a handle: it stands for nothing from then on, and its store is freed if it was the last handle. If the
- * handle stands for nothing, or is null, nothing is done. */
+/* Frees a handle: it stands for nothing from then on, and its store is freed if it was the last handle. Does
+ * nothing if the handle stands for nothing, or is null. */
 static inline void treedb_free(treedb *handle) {
   if (handle) treedb_c_free(handle);
 }
