@@ -148,7 +148,8 @@ static inline int32_t treedb_set_flag(treedb *handle, uint64_t id, uint32_t flag
   return handle ? treedb_c_set_flag(handle, id, flag) : TREEDB_NULL;
 }
 
-/* Clears a flag in the same way: TREEDB_WAS_SET for the one call that changed it, TREEDB_WAS_CLEAR if it was clear. */
+/* Clears a flag in the same way: TREEDB_WAS_SET for the one call that changed it, TREEDB_WAS_CLEAR if it was
+ * clear. */
 static inline int32_t treedb_clear_flag(treedb *handle, uint64_t id, uint32_t flag) {
   return handle ? treedb_c_clear_flag(handle, id, flag) : TREEDB_NULL;
 }
