@@ -1,29 +1,29 @@
 /* treedb.h - a store of state vectors for model checkers, as a static library for C99 and C++11.
  *
  * A store gives each different vector one identifier, and answers whether the vector is new or was seen
- * before. What is proved of each call is told in docs/C.md; this page says how to call it.
+ * before. docs/C.md says what is proved of each call; this header says how to call it.
  *
- * HANDLES. A `treedb` is an object of the caller's own. It stands for a store, or for nothing: TREEDB_NONE,
+ * HANDLES. A `treedb` is an object that the caller owns. It stands for a store, or for nothing: TREEDB_NONE,
  * which is all zeros. `treedb_create` makes a store and its first handle, `treedb_split` a further handle of
- * the same store. A store is freed with its last handle. A handle is neither copied nor written to but by
- * these calls.
+ * the same store. A store is freed with its last handle. The caller neither copies nor changes a handle,
+ * except by these calls.
  *
  * THREADS. A handle is used by one thread at a time. Handles of one store may be used at the same time by
  * different threads, without any lock: no call waits for another. A handle may go from one thread to another
- * if a lock, the start or end of a thread, or a sequentially consistent atomic orders that. No call is made
- * from a signal handler, nor in a child that a process with threads has forked.
+ * if a lock, the start or end of a thread, or a sequentially consistent atomic orders that. No call may be
+ * made from a signal handler, nor in a child that a process with threads has forked.
  *
- * MEMORY. `treedb_create` and `treedb_split` take memory (rattle_alloc and its two like, which the archive
- * liblibc_c.a takes from malloc); no other call does. A store takes 8 bytes for each place of its two tables,
- * and twice as much while it is created. It does not grow.
+ * MEMORY. `treedb_create` and `treedb_split` take memory (by rattle_alloc, rattle_realloc and rattle_dealloc,
+ * which the archive liblibc_c.a implements by malloc); no other call does. A store takes 8 bytes for each
+ * place of its two tables, and twice as much while it is created. It does not grow.
  *
- * CODES. A call answers a code of `treedb_code`: 0 and above for what was asked, below 0 for each reason
- * why not. A call that answers below 0 gives no identifier and sets no flag, writes nothing through its
- * pointers, and leaves the handle as good as before.
+ * CODES. A call returns a code of `treedb_code`: 0 or above if it did what was asked, below 0 for each reason
+ * why it did not. A call that returns less than 0 gives no identifier, sets no flag, writes nothing through
+ * its pointers, and leaves the handle as good as before.
  *
- * WHAT IS NOT TESTED, so the caller sees to it: that a pointer points to as many numbers as it says; that
- * the objects of one call do not overlap; that a handle is TREEDB_NONE or as one of these calls left it; and
- * what THREADS asks for. All else is tested, and has a code. */
+ * WHAT IS NOT TESTED, so the caller has to ensure it: that a pointer points to as many numbers as the call
+ * says; that the objects of one call do not overlap; that a handle is TREEDB_NONE or as one of these calls
+ * left it; and what THREADS asks for. Everything else is tested, and has a code. */
 #ifndef TREEDB_H
 #define TREEDB_H
 
@@ -35,10 +35,10 @@
 extern "C" {
 #endif
 
-/* The version that this page describes: 10000 * major + 100 * minor + patch. */
+/* The version that this header describes: 10000 * major + 100 * minor + patch. */
 #define TREEDB_VERSION 10000
 
-/* A handle. Its fields are the library's own, but `live` may be read: whether it stands for something. */
+/* A handle. Its fields belong to the library, but `live` may be read: whether it stands for a store. */
 typedef struct treedb {
   void *at;
   bool live;
@@ -50,24 +50,24 @@ typedef struct treedb {
 typedef struct treedb_room {
   uint32_t nodes; /* 2^nodes places for inner nodes: 3 to 25, and at most 16 with profile 16 */
   uint32_t roots; /* 2^roots places for vectors: 3 to 24 */
-  uint64_t probe; /* how many lines of 8 places are searched for one, 1 to 4194304, which is all of them */
+  uint64_t probe; /* how many cache lines of 8 places are searched for one, 1 to 4194304, which is all */
 } treedb_room;
 
-/* What was done through a handle, since it was made. */
+/* What was done through a handle since it was made. */
 typedef struct treedb_sums {
   uint64_t nodes; /* inner nodes that it put */
-  uint64_t names; /* vectors that it was answered TREEDB_NEW */
+  uint64_t names; /* vectors that it was told are TREEDB_NEW */
 } treedb_sums;
 
-/* What a call answers. */
+/* What a call returns. */
 typedef enum treedb_code {
   TREEDB_DONE = 0,         /* done */
   TREEDB_NEW = 1,          /* the vector got its identifier by this call */
-  TREEDB_SEEN = 2,         /* the vector had its identifier */
+  TREEDB_SEEN = 2,         /* the vector already had its identifier */
   TREEDB_WAS_CLEAR = 3,    /* the flag was clear until this call */
   TREEDB_WAS_SET = 4,      /* the flag was set until this call */
   TREEDB_NO_HANDLE = -1,   /* the handle stands for nothing */
-  TREEDB_IN_USE = -2,      /* the handle that is to be made stands for something */
+  TREEDB_IN_USE = -2,      /* the handle to be made already stands for a store */
   TREEDB_NO_MEMORY = -3,   /* memory ran out */
   TREEDB_BAD_PROFILE = -4, /* not 16, 28 or 31 */
   TREEDB_BAD_SLOTS = -5,   /* not 2 to 1024 slots */
@@ -81,10 +81,10 @@ typedef enum treedb_code {
   TREEDB_FULL_ROOTS = -13, /* the table of roots has no place for the vector, for good */
   TREEDB_TOO_MANY = -14,   /* no store has room for so many states */
   TREEDB_NULL = -15,       /* a pointer is null */
-  TREEDB_SAME = -16        /* both handles are one */
+  TREEDB_SAME = -16        /* both handles are the same object */
 } treedb_code;
 
-/* The library's own symbols: programs call the functions below, which test what these take for granted. */
+/* The library's own symbols. Programs call the functions below instead, which test what these assume. */
 int32_t treedb_c_version(void);
 int32_t treedb_c_sizes(uint32_t profile, size_t slots, uint64_t states, treedb_room *room);
 int32_t treedb_c_create(treedb *handle, uint32_t profile, size_t slots, const treedb_room *room);
@@ -97,13 +97,13 @@ int32_t treedb_c_flags(treedb *handle, uint64_t id, uint64_t *flags);
 int32_t treedb_c_counts(treedb *handle, treedb_sums *sums);
 void treedb_c_free(treedb *handle);
 
-/* The version of the library that is linked, as TREEDB_VERSION has it. Any thread may call it at any time. */
+/* The version of the linked library, in the form of TREEDB_VERSION. Any thread may call it at any time. */
 static inline int32_t treedb_version(void) { return treedb_c_version(); }
 
-/* The least room for so many different states of so many slots in a store of this profile: TREEDB_DONE, or
- * TREEDB_BAD_PROFILE, TREEDB_BAD_SLOTS, TREEDB_TOO_MANY, in this order, or first TREEDB_NULL. A store that is
- * created so is never full for them: it has a place for each vector, and for each inner node of its tree.
- * It takes no memory, and any thread may call it. */
+/* Writes the least room for that many distinct states of that many slots in a store of this profile:
+ * TREEDB_DONE. Else, the first of these that holds: TREEDB_NULL, TREEDB_BAD_PROFILE, TREEDB_BAD_SLOTS,
+ * TREEDB_TOO_MANY. A store of this room is never full for them: it has a place for each vector, and for each
+ * inner node of its tree. The call takes no memory, and any thread may make it. */
 static inline int32_t treedb_sizes(uint32_t profile, size_t slots, uint64_t states, treedb_room *room) {
   return room ? treedb_c_sizes(profile, slots, states, room) : TREEDB_NULL;
 }
@@ -125,11 +125,11 @@ static inline int32_t treedb_split(treedb *from, treedb *handle) {
   return from == handle ? TREEDB_SAME : treedb_c_split(from, handle);
 }
 
-/* Inserts a vector, unless the store has it, and writes its identifier, below 2^roots, to *id: TREEDB_NEW to
- * the one call that gave it this identifier, TREEDB_SEEN to every other. Else, the first of these that holds:
- * TREEDB_NULL, TREEDB_NO_HANDLE, TREEDB_BAD_VECTOR; or TREEDB_FULL_NODES or TREEDB_FULL_ROOTS, after which
- * this vector never gets an identifier, while others may. It costs least where the vector differs little from
- * the last one that this handle was given an identifier for. */
+/* Inserts a vector, unless the store has it, and writes its identifier, below 2^roots, to *id: TREEDB_NEW for
+ * the one call that gave the vector this identifier, TREEDB_SEEN for every other. Else, the first of these
+ * that holds: TREEDB_NULL, TREEDB_NO_HANDLE, TREEDB_BAD_VECTOR; or TREEDB_FULL_NODES or TREEDB_FULL_ROOTS,
+ * after which this vector never gets an identifier, while others may. The call costs least if the vector
+ * differs little from the last one for which this handle was given an identifier. */
 static inline int32_t treedb_insert(treedb *handle, const uint32_t *vector, size_t slots, uint64_t *id) {
   return handle && vector && id ? treedb_c_insert(handle, vector, slots, id) : TREEDB_NULL;
 }
@@ -141,14 +141,15 @@ static inline int32_t treedb_find(treedb *handle, uint64_t id, uint32_t *vector,
   return handle && vector ? treedb_c_find(handle, id, vector, slots) : TREEDB_NULL;
 }
 
-/* Sets a flag, from 0, of the vector that has this identifier, in one atomic step: TREEDB_WAS_CLEAR to the
- * one call that changed it, else TREEDB_WAS_SET. Or the first of these that holds: TREEDB_NULL,
- * TREEDB_NO_HANDLE, TREEDB_BAD_FLAG, TREEDB_NO_NAME. */
+/* Sets a flag, numbered from 0, of the vector that has this identifier, in one atomic step: TREEDB_WAS_CLEAR
+ * for the one call that changed it, TREEDB_WAS_SET if it was set. Else, the first of these that holds:
+ * TREEDB_NULL, TREEDB_NO_HANDLE, TREEDB_BAD_FLAG, TREEDB_NO_NAME. */
 static inline int32_t treedb_set_flag(treedb *handle, uint64_t id, uint32_t flag) {
   return handle ? treedb_c_set_flag(handle, id, flag) : TREEDB_NULL;
 }
 
-/* Clears a flag, in the same way: TREEDB_WAS_SET to the one call that changed it, else TREEDB_WAS_CLEAR. */
+/* Clears a flag in the same way: TREEDB_WAS_SET for the one call that changed it, TREEDB_WAS_CLEAR if it was
+ * clear. */
 static inline int32_t treedb_clear_flag(treedb *handle, uint64_t id, uint32_t flag) {
   return handle ? treedb_c_clear_flag(handle, id, flag) : TREEDB_NULL;
 }
@@ -165,8 +166,8 @@ static inline int32_t treedb_counts(treedb *handle, treedb_sums *sums) {
   return handle && sums ? treedb_c_counts(handle, sums) : TREEDB_NULL;
 }
 
-/* The handle stands for nothing from then on, and its store is freed if it was the last. Where it stands for
- * nothing, or is null, nothing is done. */
+/* Frees a handle: it stands for nothing from then on, and its store is freed if it was the last handle. Does
+ * nothing if the handle stands for nothing, or is null. */
 static inline void treedb_free(treedb *handle) {
   if (handle) treedb_c_free(handle);
 }
