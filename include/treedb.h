@@ -79,7 +79,7 @@ typedef enum treedb_code {
   TREEDB_NO_NAME = -11,    /* no vector has the identifier */
   TREEDB_FULL_NODES = -12, /* the table of nodes has no place for the vector, for good */
   TREEDB_FULL_ROOTS = -13, /* the table of roots has no place for the vector, for good */
-  TREEDB_TOO_MANY = -14,   /* no store has room for so many states */
+  TREEDB_TOO_MANY = -14,   /* no store has room for that many states */
   TREEDB_NULL = -15,       /* a pointer is null */
   TREEDB_SAME = -16        /* both handles are the same object */
 } treedb_code;
